@@ -1,0 +1,7 @@
+pub mod Tests
+pub mod Soundness
+pub mod Frame
+pub mod SoundKept
+pub mod Runs
+pub mod Refusals
+pub mod RunsAToL

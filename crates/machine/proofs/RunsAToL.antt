@@ -1,0 +1,27 @@
+-- Runs A to L, by evaluation of the definitions.
+use mathlib.Core.Path.{refl}
+use Rattle.step.specs.Steps.{stepOf}
+use Rattle.step.specs.Requests.{requestOf}
+use Rattle.machine.specs.State.{allBelow, sound}
+use Rattle.machine.specs.Opening.{startOf}
+use Rattle.machine.specs.Entry.{requested, stepped, called}
+use Rattle.machine.specs.Run.{notes}
+use Rattle.machine.specs.Table.{Runs}
+
+pub runs-A-to-L : Runs
+unfolding stepOf requestOf allBelow sound startOf requested stepped called notes
+runs-A-to-L =
+    record {
+      A = refl;
+      B = refl;
+      C = refl;
+      D = refl;
+      E = refl;
+      F = refl;
+      G = refl;
+      H = refl;
+      I = refl;
+      J = refl;
+      K = refl;
+      L = refl;
+    }

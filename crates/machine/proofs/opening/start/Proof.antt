@@ -1,0 +1,28 @@
+-- Either all is in range and the first state is given, or the state of zeros is.
+-- Assumes nothing.
+use borrow.Author.Needs.{needs}
+use Rattle.machine.specs.Opening.{startOf}
+use Rattle.machine.proofs.opening.start.Statement.{statement}
+use Rattle.machine.proofs.opening.start.Tie as tie
+
+in-range-requires : tie.Need-in-range-requires
+in-range-requires c κs = search needs
+
+first-state-requires : tie.Need-first-state-requires
+first-state-requires c κs = search needs
+
+zero-state-requires : tie.Need-zero-state-requires
+zero-state-requires c κs = search needs
+
+returns : tie.Need-returns
+unfolding startOf
+returns c = rw (← c .before .before .in-range .ensures, c .before .if1 .taken, c .first-state .ensures)
+
+returns-2 : tie.Need-returns-2
+unfolding startOf
+returns-2 c = rw (← c .before .before .in-range .ensures, c .before .if1 .left, c .zero-state .ensures)
+
+pub start-spec : {M : Type 1} → statement M
+start-spec =
+    tie.close
+    (tie.spec in-range-requires first-state-requires zero-state-requires returns returns-2)

@@ -1,0 +1,6 @@
+pub mod State
+pub mod Opening
+pub mod Entry
+pub mod Run
+pub mod Refusal
+pub mod Table

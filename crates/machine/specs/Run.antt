@@ -1,0 +1,76 @@
+-- A run: entries as data, played one after another, and what the log says of each.
+use Prim.Native.Nat.{ℕ, zero, suc}
+use mathlib.Core.Bool.{Bool, true, false, not, cond}
+use mathlib.Core.List.{List, [], _∷_}
+use lib.Dec.{leb}
+use Rattle.step.specs.Number.{sameTag}
+use Rattle.step.specs.Steps.{ownSteps}
+use Rattle.step.specs.Outcomes.{toldOf}
+use Rattle.step.specs.declared.Process.{Process}
+use Rattle.step.specs.declared.Record.{Record}
+use Rattle.step.specs.declared.Outcome.{Outcome}
+use Rattle.machine.specs.State.{recordAt}
+use Rattle.machine.specs.Entry.{called}
+use Rattle.machine.specs.declared.State.{State}
+use Rattle.machine.specs.declared.Kind.{Kind}
+use Rattle.machine.specs.declared.Kind.the-variants.{Load, Store, Check, Step}
+use Rattle.machine.specs.declared.Answer.{Answer}
+
+pub record Entry : Type 0 where
+  pub process : Process
+  pub kind : Kind
+
+-- The fields of a record of the log, and whether X changed.
+pub record Note : Type 0 where
+  pub outcome : ℕ
+  pub process : ℕ
+  pub steps : ℕ
+  pub mark : ℕ
+  pub value : ℕ
+  pub changed : Bool
+
+abbrev pub played : State → Entry → Answer
+played st e = called st (e .process) (e .kind)
+
+-- "A refused entry's outcome is its number below", and those numbers start at 11.
+abbrev pub turnedAway : Outcome → Bool
+turnedAway outcome = leb 11 (toldOf outcome .number)
+
+-- "own steps of this call so far with this one (0 for a request or a refused entry)"
+abbrev pub stepsOf : State → Process → Kind → Outcome → ℕ
+stepsOf st p Load outcome = 0
+stepsOf st p (Store v) outcome = 0
+stepsOf st p Check outcome = 0
+stepsOf st p Step outcome = cond (turnedAway outcome) 0 (ownSteps (recordAt st (p .0) .place))
+
+-- "how often X has changed" goes by this: X after the entry is not X before it
+abbrev pub changes : State → State → Bool
+changes before after = not (sameTag (before .x) (after .x))
+
+abbrev pub noteBy : State → Entry → Answer → Note
+noteBy st e a =
+    record {
+      outcome = toldOf (a .outcome) .number;
+      process = e .process .0;
+      steps = stepsOf st (e .process) (e .kind) (a .outcome);
+      mark = toldOf (a .outcome) .mark;
+      value = toldOf (a .outcome) .value;
+      changed = changes st (a .state);
+    }
+
+abbrev pub noteOf : State → Entry → Note
+noteOf st e = noteBy st e (played st e)
+
+-- the state after a list of entries, and the notes of them in order
+unfoldable pub after : State → List Entry → State
+after st [] = st
+after st (e ∷ es) = after (played st e .state) es
+
+unfoldable pub notes : State → List Entry → List Note
+notes st [] = []
+notes st (e ∷ es) = noteOf st e ∷ notes (played st e .state) es
+
+-- how many of the notes say that X changed
+unfoldable pub changeCount : List Note → ℕ
+changeCount [] = 0
+changeCount (w ∷ ws) = cond (w .changed) (suc (changeCount ws)) (changeCount ws)

@@ -1,0 +1,84 @@
+-- Document 01, "Runs beside each edge", A to L: each line is an entry and what the log must say of it. "LL1" is the request and
+-- all steps.
+use Prim.Native.Nat.{ℕ}
+use mathlib.Core.Path.{_≡_}
+use mathlib.Core.Bool.{Bool, true, false}
+use mathlib.Core.List.{List, [], _∷_, _++_, map}
+use Rattle.machine.specs.Opening.{startOf}
+use Rattle.machine.specs.Run.{Entry, Note, notes}
+use Rattle.machine.specs.declared.Kind.{Kind}
+use Rattle.machine.specs.declared.Kind.the-variants.{Load, Store, Check, Step}
+
+pub record Line : Type 0 where
+  pub entry : Entry
+  pub says : Note
+
+-- process, kind; outcome, steps, mark, value, whether X changed
+abbrev pub line : ℕ → Kind → ℕ → ℕ → ℕ → ℕ → Bool → Line
+line p kind outcome steps mark value changed =
+    record {
+      entry = record { process = record { 0 = p }; kind = kind };
+      says = record { outcome = outcome; process = p; steps = steps; mark = mark; value = value; changed = changed };
+    }
+
+-- a request that is taken; a step after which the call goes on; the step 8 that changes X
+abbrev pub asks : ℕ → Kind → Line
+asks p kind = line p kind 0 0 0 0 false
+
+abbrev pub goes : ℕ → ℕ → Line
+goes p steps = line p Step 1 steps 0 0 false
+
+abbrev pub changesX : ℕ → Line
+changesX p = line p Step 1 2 0 0 true
+
+-- an LL's answer: steps, mark, value; a store's two answers; a check's "no"; an entry that is turned away
+abbrev pub gives : ℕ → ℕ → ℕ → ℕ → Line
+gives p steps mark value = line p Step 2 steps mark value false
+
+abbrev pub done : ℕ → Line
+done p = line p Step 3 4 0 0 false
+
+abbrev pub notDone : ℕ → Line
+notDone p = line p Step 4 2 0 0 false
+
+abbrev pub saysNo : ℕ → Line
+saysNo p = line p Step 6 1 0 0 false
+
+abbrev pub turned : ℕ → Kind → ℕ → Line
+turned p kind number = line p kind number 0 0 0 false
+
+-- whole calls: a load of three steps, a store that is done, its first two steps, a store that is not done
+abbrev pub LL : ℕ → ℕ → List Line
+LL p v = asks p Load ∷ goes p 1 ∷ goes p 2 ∷ gives p 3 1 v ∷ []
+
+abbrev pub SCtwo : ℕ → ℕ → List Line
+SCtwo p v = asks p (Store v) ∷ goes p 1 ∷ changesX p ∷ []
+
+abbrev pub SC : ℕ → ℕ → List Line
+SC p v = SCtwo p v ++ (goes p 3 ∷ done p ∷ [])
+
+abbrev pub SCfails : ℕ → ℕ → List Line
+SCfails p v = asks p (Store v) ∷ goes p 1 ∷ notDone p ∷ []
+
+-- a load of process 1 stands after its step 1, and process 0 stores 20
+abbrev pub behind : List Line
+behind = asks 1 Load ∷ goes 1 1 ∷ (LL 0 7 ++ (SC 0 20 ++ LL 0 20))
+
+-- the log of these entries from the start of n, s and v says what the lines say
+abbrev pub Right : ℕ → ℕ → ℕ → List Line → Type 0
+Right n s v lines = notes (startOf n (record { 0 = s }) v .state) (map (λ l. l .entry) lines) ≡ map (λ l. l .says) lines
+
+-- "V is 7, S 9, N 2 unless said."
+pub record Runs : Type 0 where
+  pub A : Right 1 9 7 (LL 0 7)
+  pub B : Right 2 9 7 (SCfails 1 40)
+  pub C : Right 2 9 7 (asks 0 Check ∷ saysNo 0 ∷ [])
+  pub D : Right 2 9 7 (LL 1 7 ++ (SC 1 40 ++ SCfails 1 41))
+  pub E : Right 2 9 7 (LL 1 7 ++ (LL 0 7 ++ (SC 0 20 ++ (LL 0 20 ++ (SC 0 7 ++ SCfails 1 99)))))
+  pub F : Right 2 9 7 (asks 1 Load ∷ goes 1 1 ∷ (LL 0 7 ++ (SCtwo 0 20 ++ (goes 1 2 ∷ gives 1 3 1 7 ∷ []))))
+  pub G : Right 2 9 7 (LL 0 7 ++ (SCtwo 0 20 ++ LL 1 20))
+  pub H : Right 2 9 7 (behind ++ (asks 0 (Store 30) ∷ goes 0 1 ∷ goes 1 2 ∷ goes 1 3 ∷ gives 1 4 2 7 ∷ []))
+  pub I : Right 2 9 7 (behind ++ (SC 0 30 ++ (goes 1 2 ∷ goes 1 3 ∷ gives 1 4 2 20 ∷ [])))
+  pub J : Right 1 2 7 (LL 0 7 ++ (SC 0 5 ++ (LL 0 5 ++ (turned 0 (Store 6) 13 ∷ []))))
+  pub K : Right 2 9 7 (asks 0 Load ∷ turned 0 Load 12 ∷ [])
+  pub L : Right 2 9 7 (turned 2 Step 11 ∷ turned 1 Step 14 ∷ [])

@@ -1,0 +1,5 @@
+pub mod Number
+pub mod Steps
+pub mod Requests
+pub mod Outcomes
+pub mod Registers

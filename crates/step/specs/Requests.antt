@@ -1,0 +1,45 @@
+-- Document 01, "A request starts a call and reaches no register."
+use Prim.Native.Nat.{ℕ}
+use mathlib.Core.Bool.{Bool, true, false, cond}
+use lib.Dec.{leb}
+use Rattle.step.specs.Steps.{at}
+use Rattle.step.specs.declared.Sequence.{Sequence}
+use Rattle.step.specs.declared.Place.{Place}
+use Rattle.step.specs.declared.Place.the-variants.{Idle, Load1, Load2, Load3, Load5, Store7, Store8, Store9, Store10, Check14}
+use Rattle.step.specs.declared.Record.{Record}
+use Rattle.step.specs.declared.Outcome.{Outcome}
+use Rattle.step.specs.declared.Outcome.the-variants.{Taken, CallOpen, UsedUp}
+use Rattle.step.specs.declared.Request.{Request}
+use Rattle.step.specs.declared.Request.the-variants.{Load, Store, Check}
+use Rattle.step.specs.declared.Requested.{Requested}
+
+-- whether a process stands in no call
+abbrev pub idle : Place → Bool
+idle Idle = true
+idle Load1 = false
+idle Load2 = false
+idle (Load3 v) = false
+idle Load5 = false
+idle (Store7 v) = false
+idle Store8 = false
+idle Store9 = false
+idle Store10 = false
+idle Check14 = false
+
+-- a refused request: "state the same"
+abbrev pub notTaken : Record → Outcome → Requested
+notTaken own outcome = record { own = own; outcome = outcome }
+
+-- the call starts at its first step
+abbrev pub begun : Record → Place → Requested
+begun own place = record { own = at own place; outcome = Taken }
+
+-- 13: "SC request when the next number is above S"
+abbrev pub asked : Sequence → Record → Request → Requested
+asked last own Load = begun own Load1
+asked last own (Store v) = cond (leb (own .next .0) (last .0)) (begun own (Store7 v)) (notTaken own UsedUp)
+asked last own Check = begun own Check14
+
+-- 12: "request to a process that has a call open"; then 13
+unfoldable pub requestOf : Sequence → Record → Request → Requested
+requestOf last own request = cond (idle (own .place)) (asked last own request) (notTaken own CallOpen)

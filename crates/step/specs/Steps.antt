@@ -1,0 +1,135 @@
+-- Document 01, "The steps". A step of process p sees X, p's own record and one row of registers, and says what it leaves of each.
+use Prim.Native.Nat.{ℕ, _+_, _%_}
+use mathlib.Core.Bool.{Bool, true, false, cond}
+use lib.Dec.{leb}
+use lib.IntN.{pos, _-ℤ_}
+use lib.ListN.{getD, set}
+use Rattle.step.specs.Number.{isNear, withOld, sameTag}
+use Rattle.step.specs.declared.Process.{Process}
+use Rattle.step.specs.declared.Sequence.{Sequence}
+use Rattle.step.specs.declared.Tag.{Tag}
+use Rattle.step.specs.declared.Row.{Row}
+use Rattle.step.specs.declared.Place.{Place}
+use Rattle.step.specs.declared.Place.the-variants.{Idle, Load1, Load2, Load3, Load5, Store7, Store8, Store9, Store10, Check14}
+use Rattle.step.specs.declared.Record.{Record}
+use Rattle.step.specs.declared.Outcome.{Outcome}
+use Rattle.step.specs.declared.Outcome.the-variants.{GoesOn, Current, Old, Done, NotDone, Yes, No, NoCall, Unsound}
+use Rattle.step.specs.declared.Stepped.{Stepped}
+
+-- the record with another call place
+abbrev pub at : Record → Place → Record
+at own place = record { kept = own .kept; next = own .next; place = place }
+
+-- "slot k mod 2": the slot that a sequence number uses
+abbrev pub slot : Row → Sequence → ℕ
+slot row k = getD (row .slots) (k .0 % 2) 0
+
+-- "p's slot (next number mod 2) becomes v"
+abbrev pub withSlot : Row → Sequence → ℕ → Row
+withSlot row k v = record { slots = set (row .slots) (k .0 % 2) v; «old_value» = row .«old_value»; «old_number» = row .«old_number» }
+
+-- "p's old value becomes .."
+abbrev pub withOldValue : Row → ℕ → Row
+withOldValue row v = record { slots = row .slots; «old_value» = v; «old_number» = row .«old_number» }
+
+-- "step taken, call goes on"
+abbrev pub goesOn : Tag → Record → Row → Stepped
+goesOn x own row = record { x = x; own = own; row = row; outcome = GoesOn }
+
+-- "An answered call leaves its process idle."
+abbrev pub answered : Tag → Record → Row → Outcome → Stepped
+answered x own row outcome = record { x = x; own = at own Idle; row = row; outcome = outcome }
+
+-- a refused step: "state the same"
+abbrev pub refused : Tag → Record → Row → Outcome → Stepped
+refused x own row outcome = record { x = x; own = own; row = row; outcome = outcome }
+
+-- "Step 1: kept tag becomes X; call it [q, k]."
+abbrev pub step1 : Tag → Record → Row → Stepped
+step1 x own row = goesOn x (record { kept = x; next = own .next; place = Load2 }) row
+
+-- "Step 2: read q's slot k mod 2." The row is q's.
+abbrev pub step2 : Tag → Record → Row → Stepped
+step2 x own row = goesOn x (at own (Load3 (slot row (own .kept .number)))) row
+
+-- "Step 3: read q's old number. If it is k - 2 or k - 1, the call is answered with the value from step 2. Otherwise it goes on."
+abbrev pub step3 : Tag → Record → Row → ℕ → Stepped
+step3 x own row v = cond (isNear (row .«old_number») (own .kept .number .0)) (answered x own row (Current v)) (goesOn x (at own Load5) row)
+
+-- "Step 5: read q's old value. It is the answer."
+abbrev pub step5 : Tag → Record → Row → Stepped
+step5 x own row = answered x own row (Old (row .«old_value»))
+
+-- "Step 7: p's slot (next number mod 2) becomes v." The row is p's.
+abbrev pub step7 : Tag → Record → Row → ℕ → Stepped
+step7 x own row v = goesOn x (at own Store8) (withSlot row (own .next) v)
+
+-- "Step 8: if X equals p's kept tag, X becomes [p, next number], the next number grows by 1, and the call goes on. Otherwise
+-- nothing changes and the call is answered "not done"."
+abbrev pub step8 : Process → Tag → Record → Row → Stepped
+step8 p x own row =
+    cond (sameTag x (own .kept))
+    (goesOn (record { process = p; number = own .next }) (record { kept = own .kept; next = record { 0 = own .next .0 + 1 }; place = Store9 }) row)
+    (answered x own row NotDone)
+
+-- "Step 9: p's old value becomes p's slot (next number mod 2)."
+abbrev pub step9 : Tag → Record → Row → Stepped
+step9 x own row = goesOn x (at own Store10) (withOldValue row (slot row (own .next)))
+
+-- "Step 10: p's old number becomes next number - 2. Answered "done"."
+abbrev pub step10 : Tag → Record → Row → Stepped
+step10 x own row = answered x own (withOld row (pos (own .next .0) -ℤ pos 2)) Done
+
+-- "Check (VL), step 14: answered "yes" if X equals the kept tag, otherwise "no"."
+abbrev pub step14 : Tag → Record → Row → Stepped
+step14 x own row = answered x own row (cond (sameTag x (own .kept)) Yes No)
+
+-- "A step entry then runs the next step of the named process"; 14 is for a step of an idle process.
+abbrev pub stepAt : Process → Tag → Record → Row → Place → Stepped
+stepAt p x own row Idle = refused x own row NoCall
+stepAt p x own row Load1 = step1 x own row
+stepAt p x own row Load2 = step2 x own row
+stepAt p x own row (Load3 v) = step3 x own row v
+stepAt p x own row Load5 = step5 x own row
+stepAt p x own row (Store7 v) = step7 x own row v
+stepAt p x own row Store8 = step8 p x own row
+stepAt p x own row Store9 = step9 x own row
+stepAt p x own row Store10 = step10 x own row
+stepAt p x own row Check14 = step14 x own row
+
+-- No sound state has a next number above 4,294,967,296, the largest S + 1. A lone record may: its step is turned away as unsound.
+abbrev pub largestNext : ℕ
+largestNext = 4294967296
+
+unfoldable pub stepOf : Process → Tag → Record → Row → Stepped
+stepOf p x own row = cond (leb (own .next .0) largestNext) (stepAt p x own row (own .place)) (refused x own row Unsound)
+
+-- Which process's row a step is given. Steps 2, 3 and 5 reach the row of q, the process in the kept tag; steps 7, 9 and 10 reach
+-- p's own. The others reach no row: they are given p's own and hand it back as it was.
+abbrev pub reachedAt : Process → Tag → Place → Process
+reachedAt p kept Idle = p
+reachedAt p kept Load1 = p
+reachedAt p kept Load2 = kept .process
+reachedAt p kept (Load3 v) = kept .process
+reachedAt p kept Load5 = kept .process
+reachedAt p kept (Store7 v) = p
+reachedAt p kept Store8 = p
+reachedAt p kept Store9 = p
+reachedAt p kept Store10 = p
+reachedAt p kept Check14 = p
+
+abbrev pub reached : Process → Record → Process
+reached p own = reachedAt p (own .kept) (own .place)
+
+-- "own steps of this call so far with this one": the rank of the step that a process takes next
+abbrev pub ownSteps : Place → ℕ
+ownSteps Idle = 0
+ownSteps Load1 = 1
+ownSteps Load2 = 2
+ownSteps (Load3 v) = 3
+ownSteps Load5 = 4
+ownSteps (Store7 v) = 1
+ownSteps Store8 = 2
+ownSteps Store9 = 3
+ownSteps Store10 = 4
+ownSteps Check14 = 1
