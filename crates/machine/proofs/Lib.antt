@@ -4,4 +4,5 @@ pub mod Frame
 pub mod SoundKept
 pub mod Runs
 pub mod Refusals
+pub mod PartsOfRun
 pub mod RunsAToL

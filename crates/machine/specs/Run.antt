@@ -7,7 +7,7 @@ use Rattle.step.specs.Number.{sameTag}
 use Rattle.step.specs.Steps.{ownSteps}
 use Rattle.step.specs.Outcomes.{toldOf}
 use Rattle.step.specs.declared.Process.{Process}
-use Rattle.step.specs.declared.Record.{Record}
+use Rattle.step.specs.declared.Place.{Place}
 use Rattle.step.specs.declared.Outcome.{Outcome}
 use Rattle.machine.specs.State.{recordAt}
 use Rattle.machine.specs.Entry.{called}
@@ -36,12 +36,15 @@ played st e = called st (e .process) (e .kind)
 abbrev pub turnedAway : Outcome → Bool
 turnedAway outcome = leb 11 (toldOf outcome .number)
 
--- "own steps of this call so far with this one (0 for a request or a refused entry)"
+-- "own steps of this call so far with this one (0 for a request or a refused entry)", by the place before the entry
+abbrev pub stepsBy : Place → Kind → Outcome → ℕ
+stepsBy place Load outcome = 0
+stepsBy place (Store v) outcome = 0
+stepsBy place Check outcome = 0
+stepsBy place Step outcome = cond (turnedAway outcome) 0 (ownSteps place)
+
 abbrev pub stepsOf : State → Process → Kind → Outcome → ℕ
-stepsOf st p Load outcome = 0
-stepsOf st p (Store v) outcome = 0
-stepsOf st p Check outcome = 0
-stepsOf st p Step outcome = cond (turnedAway outcome) 0 (ownSteps (recordAt st (p .0) .place))
+stepsOf st p kind outcome = stepsBy (recordAt st (p .0) .place) kind outcome
 
 -- "how often X has changed" goes by this: X after the entry is not X before it
 abbrev pub changes : State → State → Bool

@@ -8,6 +8,7 @@ use step::Sequence;
 use step::Tag;
 
 pub mod entry;
+pub mod parts;
 pub mod opening;
 pub mod sound;
 

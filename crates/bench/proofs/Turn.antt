@@ -1,0 +1,212 @@
+-- One turn of the loop over a part's entries: what the loop keeps, and why a turn keeps it.
+use Prim.Native.Nat.{ℕ, zero, suc, _+_, _-_, _*_, _≤_, _<_}
+use mathlib.Core.Path.{_≡_, refl, sym, ap, _∙_}
+use mathlib.Core.Bool.{Bool, true, false, cond, not}
+use mathlib.Core.List.{List, [], _∷_, _++_, map, map-append}
+use native.Mathlib.Numerals.{add-one}
+use native.Mathlib.Omega.{arith}
+use lib.Dec.{ltb}
+use lib.ListN.{length, take, drop, length-append, length-drop, length-map}
+use borrow.Author.Tests.{ltb-true}
+use Rattle.step.specs.Number.{sameTag}
+use Rattle.step.specs.declared.Sequence.{Sequence}
+use Rattle.step.specs.declared.Version.{Version}
+use Rattle.step.specs.declared.Stepped.{Stepped}
+use Rattle.step.specs.declared.Outcome.the-variants.{NoProcess}
+use Rattle.machine.specs.State.{rowAt, recordAt}
+use Rattle.machine.specs.Entry.{withStepped}
+use Rattle.machine.specs.Run.{Entry, Note, played, noteOf, noteBy, notes, after, changeCount, stepsBy}
+use Rattle.machine.specs.Parts.{seatOf, rowGiven, kindParts, playedParts}
+use Rattle.machine.specs.declared.State.{State}
+use Rattle.machine.specs.declared.Kind.{Kind}
+use Rattle.machine.specs.declared.Kind.the-variants.{Load, Store, Check, Step}
+use Rattle.machine.proofs.Runs.{Ready, ready-after, after-append, notes-append, count-append, size-kept, notes-length, count-most}
+use Rattle.machine.proofs.PartsOfRun.{seat, given, played-by-parts, seat-within, given-within}
+use Rattle.schedule.specs.Later.{entryAt}
+use Rattle.schedule.specs.Bytes.{listBelow}
+use Rattle.log.specs.Bytes.{laid}
+use Rattle.log.specs.Log.{recordOf, recordsOf}
+use Rattle.log.specs.declared.Note as log
+use Rattle.step.specs.Outcomes.{toldOf}
+use Rattle.step.specs.declared.Outcome.{Outcome}
+use Rattle.machine.specs.declared.Answer.{Answer}
+use Rattle.log.proofs.Laws.{record-length, records-length, records-more, grown}
+use Rattle.schedule.specs.declared.Entry as file
+use Rattle.bench.specs.Asked.{entryBy, asked, inLog, recordFrom, partEntries}
+use Rattle.bench.specs.Play.{playedFrom, recordsFrom}
+use Rattle.bench.specs.declared.Played.{Played}
+
+-- one entry more
+pub entries-more : (part : List ℕ) (j : ℕ) → partEntries part (j + 1) ≡ partEntries part j ++ (asked (entryAt part j) ∷ [])
+unfolding partEntries
+entries-more part j = rw add-one
+
+pub entries-length : (part : List ℕ) (j : ℕ) → length (partEntries part j) ≡ j
+unfolding partEntries
+entries-length part zero = refl
+entries-length part (suc j) = rw (length-append) (omega (arith, entries-length part j))
+
+-- The record that is written is the note of the run: where the process is not there, no steps are counted whatever the place.
+module _ (st : State) (e : Entry) (h : Ready st) where
+  abbrev left : Stepped
+  left = playedParts (st .n) (st .s) (e .process) (st .x) (recordAt st (seat st e)) (rowAt st (given st e)) (e .kind)
+
+  steps-same : (b : Bool) (kind : Kind) → ltb (e .process .0) (st .n) ≡ b
+      → stepsBy (recordAt st (cond b (e .process .0) 0) .place) kind (playedParts (st .n) (st .s) (e .process) (st .x) (recordAt st (cond b (e .process .0) 0)) (rowAt st (given st e)) kind .outcome)
+      ≡ stepsBy (recordAt st (e .process .0) .place) kind (playedParts (st .n) (st .s) (e .process) (st .x) (recordAt st (cond b (e .process .0) 0)) (rowAt st (given st e)) kind .outcome)
+  unfolding playedParts
+  steps-same true kind t = refl
+  steps-same false Load t = refl
+  steps-same false (Store v) t = refl
+  steps-same false Check t = refl
+  steps-same false Step t = rw t
+
+  pub note-written : inLog (noteOf st e) ≡ recordFrom (e .process .0) (e .kind) (recordAt st (seat st e) .place) (left .outcome)
+  note-written =
+      let out : played st e .outcome ≡ left .outcome = ap (λ (a : Answer). a .outcome) (played-by-parts st e h) in
+      ap (λ (o : Outcome). recordFrom (e .process .0) (e .kind) (recordAt st (e .process .0) .place) o) out
+      ∙ ap (λ (k : ℕ). counted k) (sym (steps-same (ltb (e .process .0) (st .n)) (e .kind) refl))
+    where
+      counted : ℕ → log.Note
+      counted k =
+          record
+          { outcome = toldOf (left .outcome) .number
+          ; process = e .process .0
+          ; steps = k
+          ; mark = toldOf (left .outcome) .mark
+          ; value = toldOf (left .outcome) .value }
+
+  -- where an entry leads, and whether X changed
+  pub state-left : played st e .state ≡ withStepped st (seat st e) (given st e) left .state
+  state-left = ap (λ (a : Answer). a .state) (played-by-parts st e h)
+
+  pub change-counted : changeCount (noteOf st e ∷ []) ≡ cond (not (sameTag (st .x) (left .x))) 1 0
+  unfolding changeCount
+  change-counted = ap (λ (after : State). cond (not (sameTag (st .x) (after .x))) 1 0) state-left
+
+-- What the loop keeps: after j turns it stands where the run of the first j entries does.
+pub record Turn (part rest₀ : List ℕ) (n : ℕ) (s : Sequence) (end : ℕ) (st₀ : State) (changes₀ : Version) (rest : List ℕ) (st : State) (changes : Version) (j : ℕ) : Type 0 where
+  pub within : j ≤ end
+  pub size : st₀ .n ≡ n
+  pub last : st₀ .s ≡ s
+  pub ready : Ready st₀
+  pub room : 12 * end ≤ length rest₀
+  pub few : changes₀ .0 + end < 4294967295
+  pub state : st ≡ after st₀ (partEntries part j)
+  pub count : changes .0 ≡ changes₀ .0 + changeCount (notes st₀ (partEntries part j))
+  pub log : rest ≡ recordsOf (map inLog (notes st₀ (partEntries part j))) ++ drop (12 * j) rest₀
+
+pub turn-start : (part rest₀ : List ℕ) (end : ℕ) (st₀ : State) (changes₀ : Version) → Ready st₀ → 12 * end ≤ length rest₀ → changes₀ .0 + end < 4294967295
+    → Turn part rest₀ (st₀ .n) (st₀ .s) end st₀ changes₀ rest₀ st₀ changes₀ 0
+unfolding partEntries after notes changeCount recordsOf
+turn-start part rest₀ end st₀ changes₀ h room few =
+    record { within = omega arith; size = refl; last = refl; ready = h; room = room; few = few; state = refl; count = omega arith; log = refl }
+
+-- The notes of one entry more.
+module _ (part : List ℕ) (st₀ : State) (j : ℕ) where
+  abbrev es : List Entry
+  es = partEntries part j
+
+  abbrev next : Entry
+  next = asked (entryAt part j)
+
+  after-more : after st₀ (partEntries part (j + 1)) ≡ played (after st₀ es) next .state
+  unfolding after
+  after-more = rw (entries-more part j) (after-append st₀ es (next ∷ []))
+
+  notes-more : notes st₀ (partEntries part (j + 1)) ≡ notes st₀ es ++ (noteOf (after st₀ es) next ∷ [])
+  unfolding notes
+  notes-more = rw (entries-more part j) (notes-append st₀ es (next ∷ []))
+
+  pub records-so-far : length (recordsOf (map inLog (notes st₀ es))) ≡ 12 * j
+  records-so-far = rw (records-length, length-map, notes-length, entries-length)
+
+module _ {part rest₀ : List ℕ} {n : ℕ} {s : Sequence} {end : ℕ} {st₀ : State} {changes₀ : Version} {rest : List ℕ} {st : State} {changes : Version} {j : ℕ}
+    (h : Turn part rest₀ n s end st₀ changes₀ rest st changes j) where
+  ready-now : Ready st
+  ready-now = rw (h .state) (ready-after st₀ (partEntries part j) (h .ready))
+
+  size-now : st .n ≡ n
+  size-now = rw (h .state) (size-kept st₀ (partEntries part j) .0 ∙ h .size)
+
+  last-now : st .s ≡ s
+  last-now = rw (h .state) (size-kept st₀ (partEntries part j) .1 ∙ h .last)
+
+  -- The turn itself, said of what the loop's calls gave: the entry, its seat and row, what it left, its record, the count, the log.
+  pub turn-next : j < end
+      → (e : Entry) → e ≡ asked (entryAt part j)
+      → (i q : ℕ) → i ≡ seatOf n (e .process) → q ≡ rowGiven i (recordAt st i) (e .kind)
+      → (m : Stepped) → m ≡ playedParts n s (e .process) (st .x) (recordAt st i) (rowAt st q) (e .kind)
+      → (note : log.Note) → note ≡ recordFrom (e .process .0) (e .kind) (recordAt st i .place) (m .outcome)
+      → (changes′ : Version) → changes′ .0 ≡ changes .0 + cond (not (sameTag (st .x) (m .x))) 1 0
+      → (back : List ℕ) → back ≡ laid (recordOf note) (take (length rest - 12 * j) (drop (12 * j) rest))
+      → Turn part rest₀ n s end st₀ changes₀ (take (12 * j) rest ++ (back ++ drop (length rest - 12 * j) (drop (12 * j) rest))) (withStepped st i q m .state) changes′ (j + 1)
+  turn-next l e is i q at row m goes note says changes′ counts back laid′ =
+      record
+      { within = omega arith
+      ; size = h .size
+      ; last = h .last
+      ; ready = h .ready
+      ; room = h .room
+      ; few = h .few
+      ; state = rw (left-is, row-is, seat-is) (sym (now-after ∙ state-left st e ready-now))
+      ; count = omega (arith, counts, h .count, total)
+      ; log = grown done (recordOf note) rest₀ rest back (12 * j) (records-so-far part st₀ j) (omega (arith, record-length note, h .room)) (h .log) laid′ ∙ rw (record-length note, place, more) }
+    where
+      seat-is : i ≡ seat st e
+      seat-is = rw size-now at
+      row-is : q ≡ given st e
+      row-is = row ∙ ap (λ (k : ℕ). rowGiven k (recordAt st k) (e .kind)) seat-is
+      left-is : m ≡ playedParts (st .n) (st .s) (e .process) (st .x) (recordAt st (seat st e)) (rowAt st (given st e)) (e .kind)
+      left-is = cc (goes, size-now, last-now, seat-is, row-is)
+      done : List ℕ
+      done = recordsOf (map inLog (notes st₀ (partEntries part j)))
+      now-after : after st₀ (partEntries part (j + 1)) ≡ played st e .state
+      now-after = rw (h .state, is) (after-more part st₀ j)
+      note-now : noteOf (after st₀ (partEntries part j)) (asked (entryAt part j)) ≡ noteOf st e
+      note-now = rw (h .state, is)
+      total : changeCount (notes st₀ (partEntries part (j + 1))) ≡ changeCount (notes st₀ (partEntries part j)) + cond (not (sameTag (st .x) (m .x))) 1 0
+      total =
+          rw (notes-more part st₀ j, count-append, note-now, left-is)
+          (ap (λ (k : ℕ). changeCount (notes st₀ (partEntries part j)) + k) (change-counted st e ready-now))
+      note-is : note ≡ inLog (noteOf st e)
+      note-is = cc (says, note-written st e ready-now, seat-is, left-is)
+      more : done ++ recordOf note ≡ recordsOf (map inLog (notes st₀ (partEntries part (j + 1))))
+      more = rw (notes-more part st₀ j, map-append, records-more, note-is) (ap (λ (w : Note). done ++ recordOf (inLog w)) (sym note-now))
+      place : 12 * j + 12 ≡ 12 * (j + 1)
+      place = omega arith
+
+  -- seat and row are within the 16, and the count within its type
+  pub seat-there : (e : Entry) (i : ℕ) → i ≡ seatOf n (e .process) → i < 16
+  seat-there e i at = rw (at, ← size-now) (seat-within st e ready-now)
+
+  pub row-there : (e : Entry) (i q : ℕ) → i ≡ seatOf n (e .process) → q ≡ rowGiven i (recordAt st i) (e .kind) → q < 16
+  row-there e i q at row = rw (row, at, ← size-now) (given-within st e ready-now)
+
+  pub count-low : j < end → changes .0 < 4294967295
+  count-low l =
+      let most = count-most (notes st₀ (partEntries part j)) in
+      let long = notes-length st₀ (partEntries part j) in
+      let short = entries-length part j in
+      omega (arith, most, long, short, h .count, h .few, l)
+
+  -- the log is as long as it was lent
+  pub log-length : length rest ≡ length rest₀
+  log-length = rw (h .log, length-append, records-so-far part st₀ j, length-drop) (omega (arith, h .room, h .within))
+
+  -- after the last turn
+  pub turn-end : end ≤ j
+      → (record { state = st; changes = changes } ≡ playedFrom (record { state = st₀; changes = changes₀ }) (partEntries part end))
+      × (rest ≡ recordsFrom (record { state = st₀; changes = changes₀ }) (partEntries part end) rest₀)
+  unfolding playedFrom recordsFrom
+  turn-end l = (played-is, rw (entries-length part end, ← top) (h .log))
+    where
+      top : j ≡ end
+      top = omega (arith, h .within, l)
+      played-is : record { state = st; changes = changes } ≡ playedFrom (record { state = st₀; changes = changes₀ }) (partEntries part end)
+      played-is = rw (← top) (λ k. record { state = h .state k; changes = record { 0 = h .count k } })
+
+-- The entry that the loop reads, by its process and its kind.
+pub entry-read : (part : List ℕ) (j : ℕ) (x : file.Entry) → x ≡ entryAt part j → (p : ℕ) → p ≡ asked x .process .0 → (kind : Kind) → kind ≡ asked x .kind
+    → entryBy p kind ≡ asked (entryAt part j)
+entry-read part j x e p f kind g = rw (f, g, e)

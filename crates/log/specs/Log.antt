@@ -1,0 +1,55 @@
+-- Document 01, "The log".
+use Prim.Native.Nat.{ℕ, _+_, _*_}
+use mathlib.Core.Bool.{cond}
+use mathlib.Core.List.{List, [], _∷_, _++_}
+use lib.Dec.{leb}
+use lib.ListN.{length, getD, drop}
+use Rattle.log.specs.Bytes.{bytesOf, numberAt}
+use Rattle.log.specs.declared.Head.{Head}
+use Rattle.log.specs.declared.HeadFound.{HeadFound}
+use Rattle.log.specs.declared.HeadFound.the-variants.{Laid, NoHead}
+use Rattle.log.specs.declared.Note.{Note}
+use Rattle.log.specs.declared.NoteFound.{NoteFound}
+use Rattle.log.specs.declared.NoteFound.the-variants.{Written, NoNote}
+
+-- "First 12 bytes: entry count (0 to 3), how often X has changed (4 to 7), N (8), three zeros."
+unfoldable pub headOf : ℕ → ℕ → ℕ → List ℕ
+headOf entries changes n = bytesOf 4 entries ++ (bytesOf 4 changes ++ (n ∷ 0 ∷ 0 ∷ 0 ∷ []))
+
+-- "12 bytes an entry, in order: outcome, process, own steps of this call so far with this one .., mark, value"
+unfoldable pub recordOf : Note → List ℕ
+recordOf note = note .outcome ∷ note .process ∷ note .steps ∷ note .mark ∷ bytesOf 8 (note .value)
+
+-- "the records are written .., 12 bytes an entry, in order"
+unfoldable pub recordsOf : List Note → List ℕ
+recordsOf [] = []
+recordsOf (note ∷ notes) = recordOf note ++ recordsOf notes
+
+-- the whole log of these entries
+unfoldable pub logOf : ℕ → ℕ → List Note → List ℕ
+logOf changes n notes = headOf (length notes) changes n ++ recordsOf notes
+
+-- "12 + 12 times the entries"
+abbrev pub logLength : ℕ → ℕ
+logLength entries = 12 + 12 * entries
+
+-- the same twelve bytes read back
+unfoldable pub headIn : List ℕ → Head
+headIn log = record { entries = numberAt log 0 4; changes = numberAt log 4 4; n = getD log 8 0 }
+
+unfoldable pub noteIn : List ℕ → Note
+noteIn part =
+    record
+    { outcome = getD part 0 0
+    ; process = getD part 1 0
+    ; steps = getD part 2 0
+    ; mark = getD part 3 0
+    ; value = numberAt part 4 8 }
+
+-- The head is there where its twelve bytes are.
+unfoldable pub headFound : List ℕ → HeadFound
+headFound log = cond (leb 12 (length log)) (Laid (headIn log)) NoHead
+
+-- The record of entry i, counted from 0, follows the head and i records.
+unfoldable pub noteFound : List ℕ → ℕ → NoteFound
+noteFound log i = cond (leb (logLength (i + 1)) (length log)) (Written (noteIn (drop (logLength i) log))) NoNote

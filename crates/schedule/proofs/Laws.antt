@@ -1,0 +1,58 @@
+-- Laws of the definitions, for the proofs beside this file and for the floors above.
+-- Assumes nothing.
+use mathlib.Core.Path.{_≡_, refl, sym}
+use mathlib.Core.Bool.{Bool, true, false, cond, not, _&&_}
+use mathlib.Core.List.{List}
+use Prim.Native.Nat.{ℕ, zero, suc, _+_, _*_, _^_, _≤_, _<_}
+use native.Mathlib.Nat.{zero-add, add-zero, add-suc, add-assoc, mul-zero, mul-suc, mul-add, mul-assoc, mul-le-mul, one-le-pow}
+use lib.Pow.{pow-add}
+use native.Mathlib.Omega.{arith}
+use borrow.Author.Tests.{ne-eqb}
+use lib.ListN.{length, getD, take, drop, length-drop, List·getD-eq-default}
+use lib.Seq.{length-take-le}
+use lib.Dec.{eqb}
+use Rattle.schedule.specs.Bytes.{numberOf, zerosOf}
+use Rattle.schedule.specs.Check.{weighed}
+
+-- a sum is zero where both its parts are
+pub eqb-sum : (a x : ℕ) → eqb (a + x) 0 ≡ (eqb a 0 && eqb x 0)
+eqb-sum zero x = rw (zero-add x)
+eqb-sum (suc a) x = rw (ne-eqb (suc a + x) 0 (λ e. omega arith), ne-eqb (suc a) 0 (λ e. omega arith))
+
+-- and a multiple where what is multiplied is
+eqb-scaled : (k x : ℕ) → 0 < k → eqb (k * x) 0 ≡ eqb x 0
+eqb-scaled k zero h = rw (mul-zero k)
+eqb-scaled k (suc x) h = rw (ne-eqb (k * suc x) 0 (λ e. omega (arith, mul-suc k x)), ne-eqb (suc x) 0 (λ e. omega arith))
+
+-- a number of n + m bytes is made of one of n and one of m
+pub number-split : (b : List ℕ) (p n m : ℕ) → numberOf b p (n + m) ≡ numberOf b p n + 256 ^ n * numberOf b (p + n) m
+unfolding numberOf
+number-split b p n zero = rw (add-zero n, mul-zero (256 ^ n)) (sym (add-zero _))
+number-split b p n (suc m) =
+    rw (add-suc n m, number-split b p n m, pow-add 256 n m, mul-add, mul-assoc, add-assoc p n m, add-assoc (numberOf b p n))
+
+-- a number is zero where its bytes are
+pub number-zero : (b : List ℕ) (p n : ℕ) → eqb (numberOf b p n) 0 ≡ zerosOf b p n
+unfolding numberOf zerosOf
+number-zero b p zero = refl
+number-zero b p (suc n) = rw (eqb-sum, eqb-scaled (256 ^ n) (getD b (p + n) 0) (one-le-pow n 256 (omega arith)), number-zero b p n)
+
+-- a part that lies within a list has as many bytes as were asked for
+pub part-length : (l : List ℕ) (at n : ℕ) → at + n ≤ length l → length (take n (drop at l)) ≡ n
+part-length l at n h = length-take-le n (drop at l) (simp length-drop (omega arith))
+
+-- one summand of a block's check
+pub weight-bound : (i x : ℕ) → i < 510 → x < 256 → (i + 1) * x ≤ 130050
+weight-bound i x hi hx = mul-le-mul {n₁ = i + 1} {m₁ = x} {n₂ = 510} {m₂ = 255} (omega arith) (omega arith)
+
+-- past the end of a list there is nothing to add
+pub weighed-past : (b : List ℕ) (n m : ℕ) → length b ≤ n → weighed b (n + m) ≡ weighed b n
+weighed-past b n zero h = rw (add-zero n)
+weighed-past b n (suc m) h =
+    let past : length b ≤ n + m = omega arith in
+    rw (add-suc n m, weighed-past b n m h, List·getD-eq-default b 0 past, mul-zero (n + m + 1), add-zero)
+
+-- a test that comes first: where it finds its number that is given, and else what comes after it
+pub test-first : (x : Bool) (m rest : ℕ) → 0 < m → cond (not x) m rest ≡ cond (eqb (cond (not x) m 0) 0) rest (cond (not x) m 0)
+test-first true m rest h = refl
+test-first false m rest h = rw (ne-eqb m 0 (λ e. omega arith))

@@ -1,0 +1,6 @@
+pub mod Bytes
+pub mod Check
+pub mod Block0
+pub mod Later
+pub mod File
+pub mod Run

@@ -1,0 +1,48 @@
+-- Document 01's full run as a file, and what the definitions say of it.
+use mathlib.Core.Path.{_≡_, refl}
+use mathlib.Core.List.{List, [], _∷_, _++_}
+use Prim.Native.Nat.{ℕ, _-_}
+use lib.ListN.{length, replicate}
+use Rattle.schedule.specs.Bytes.{numberOf, zerosOf}
+use Rattle.schedule.specs.Check.{checkOf}
+use Rattle.schedule.specs.Block0.{headNumber}
+use Rattle.schedule.specs.Later.{meant, laterNumber, blockEntries}
+use Rattle.schedule.specs.File.{blockAt, fileEntries, entriesTo, inTurn, reading}
+use Rattle.schedule.specs.declared.Entry.{Entry}
+use Rattle.schedule.specs.declared.Entry.the-variants.{Load, Store, Check, Step}
+use Rattle.schedule.specs.declared.Reading.the-variants.{Refused, Accepted}
+
+-- a block: its first bytes, zeros up to byte 509, and the two bytes of its check
+abbrev block : List ℕ → ℕ → ℕ → List ℕ
+block first low high = first ++ replicate (510 - length first) 0 ++ (low ∷ high ∷ [])
+
+-- an entry that stores nothing
+abbrev plain : ℕ → ℕ → List ℕ
+plain kind process = kind ∷ process ∷ replicate 10 0
+
+-- "Input: N 2, S 9, V 7, one entry block: LL by 1, three steps of 1, SC 40 by 1, four steps of 1, VL by 0, one step of 0. The
+-- checks are 131 and 5,426.": the file, with the low byte of block 0's check left open
+unfoldable pub run : ℕ → List ℕ
+run low =
+    block (0 ∷ 0 ∷ 2 ∷ 0 ∷ 9 ∷ 0 ∷ 0 ∷ 0 ∷ 7 ∷ 0 ∷ 0 ∷ 0 ∷ 0 ∷ 0 ∷ 0 ∷ 0 ∷ 1 ∷ 0 ∷ []) low 0
+    ++ block
+    ((1 ∷ 0 ∷ 11 ∷ 0 ∷ [])
+    ++ plain 1 1 ++ plain 4 1 ++ plain 4 1 ++ plain 4 1
+    ++ (2 ∷ 1 ∷ 0 ∷ 0 ∷ 40 ∷ 0 ∷ 0 ∷ 0 ∷ 0 ∷ 0 ∷ 0 ∷ 0 ∷ [])
+    ++ plain 4 1 ++ plain 4 1 ++ plain 4 1 ++ plain 4 1
+    ++ plain 3 0 ++ plain 4 0)
+    50 21
+
+unfoldable pub runEntries : List Entry
+runEntries =
+    Load 1 ∷ Step 1 ∷ Step 1 ∷ Step 1 ∷ Store 1 40 ∷ Step 1 ∷ Step 1 ∷ Step 1 ∷ Step 1 ∷ Check 0 ∷ Step 0 ∷ []
+
+-- the two checks; that the file is accepted with N 2, S 9, V 7 and its 11 entries; and that "the check 132 in the run above gives
+-- 2, block 0"
+pub full-run : (checkOf (blockAt (run 131) 0) ≡ 131)
+    × (checkOf (blockAt (run 131) 1) ≡ 5426)
+    × (reading (run 131) ≡ Accepted 2 9 7 11)
+    × (fileEntries (run 131) ≡ runEntries)
+    × (reading (run 132) ≡ Refused 2 0)
+unfolding numberOf zerosOf checkOf headNumber meant laterNumber blockEntries entriesTo inTurn reading run runEntries
+full-run = (refl, refl, refl, refl, refl)

@@ -1,0 +1,52 @@
+// The schedule file by document 01: its block check, block 0, the later blocks, their entries, and the file as a whole.
+// Every public function answers for every input, and its `ensures` gives the answer as a definition of specs/.
+pub mod block0;
+mod bytes;
+pub mod check;
+pub mod file;
+pub mod later;
+
+pub use block0::read_head;
+pub use check::check_of;
+pub use file::block_of;
+pub use file::entry_of;
+pub use file::read_file;
+pub use later::entries_of;
+pub use later::entry_at;
+pub use later::read_block;
+pub use later::used_entries;
+
+// What an entry asks of its process. `Nothing` is the answer where no entry stands.
+pub enum Entry {
+    Load(u8),
+    Store(u8, u64),
+    Check(u8),
+    Step(u8),
+    Nothing,
+}
+
+// What block 0 says: the number that refuses it, or N, S and V.
+pub enum Head {
+    HeadRefused(usize),
+    Start { n: u8, s: u64, v: u64 },
+}
+
+// What a later block says: the number that refuses it, or how many entries it has.
+pub enum Block {
+    BlockRefused(usize),
+    Entries(usize),
+}
+
+// What a whole file says: the number that refuses it with the block where it was found, or N, S, V and how many entries it has.
+pub enum Reading {
+    Refused {
+        number: usize,
+        block: usize,
+    },
+    Accepted {
+        n: u8,
+        s: u64,
+        v: u64,
+        entries: usize,
+    },
+}

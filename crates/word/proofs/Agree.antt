@@ -1,0 +1,73 @@
+-- What the definitions come to: document 01's runs as the atomic linked word has them, and what an order of given calls holds.
+-- These are the facts that an edit of a definition breaks.
+-- Assumes nothing.
+use Prim.Native.Nat.{ℕ}
+use mathlib.Core.Path.{refl}
+use mathlib.Core.List.{List, [], _∷_, List·Mem, Perm·cons, Perm·symm, Perm·mem-iff, perm-append-singleton}
+use native.Mathlib.Omega.{arith}
+use Rattle.word.specs.Word.{Op, load, store, check, Answer, value, done, notDone, saysYes, saysNo, first}
+use Rattle.word.specs.Order.{Call, Every, Plays, InTime, InOrder}
+
+-- Exactly the calls given: each stands in the order, and nothing else does.
+module _ {A : Type 0} (a : A) (calls : List (Call A)) (o : InOrder a calls) (c : Call A) where
+  pub stands : List·Mem c calls → List·Mem c (o .order)
+  stands = Perm·mem-iff (o .once) .1
+
+  pub given : List·Mem c (o .order) → List·Mem c calls
+  given = Perm·mem-iff (o .once) .0
+
+-- a call of process p on word w, requested and decided at these places
+abbrev pub call : ℕ → ℕ → ℕ → ℕ → Op ℕ → Answer ℕ → Call ℕ
+call asked decided p w o r = record { asked = asked; decided = decided; process = p; word = w; op = o; answer = r }
+
+-- a call on word 0, where the places do not matter
+abbrev pub by : ℕ → Op ℕ → Answer ℕ → Call ℕ
+by p o r = call 0 1 p 0 o r
+
+-- First value 7. Runs A to E of document 01, each call with its answer; B, C and D go on with a call that shows what the word has
+-- become. Then a check after a load, and a store on another word, which leaves the link to this one.
+abbrev pub runs : List (List (Call ℕ))
+runs =
+    (by 0 load (value 7) ∷ [])
+    ∷ (by 1 (store 40) notDone ∷ by 0 load (value 7) ∷ [])
+    ∷ (by 0 check saysNo ∷ by 0 (store 9) notDone ∷ [])
+    ∷ (by 1 load (value 7) ∷ by 1 (store 40) done ∷ by 1 (store 41) notDone ∷ by 0 load (value 40) ∷ [])
+    ∷ (by 1 load (value 7) ∷ by 0 load (value 7) ∷ by 0 (store 20) done ∷ by 0 load (value 20) ∷ by 0 (store 7) done ∷ by 1 (store 99) notDone ∷ [])
+    ∷ (by 0 load (value 7) ∷ by 0 check saysYes ∷ by 1 check saysNo ∷ [])
+    ∷ (by 0 load (value 7) ∷ call 0 1 1 3 load (value 7) ∷ call 0 1 1 3 (store 8) done ∷ by 0 (store 9) done ∷ [])
+    ∷ []
+
+pub runs-play : Every (Plays (first 7)) runs
+runs-play = (
+  (refl, tt),
+  (
+    (refl, (refl, tt)),
+    (
+      (refl, (refl, tt)),
+      (
+        (refl, (refl, (refl, (refl, tt)))),
+        ((refl, (refl, (refl, (refl, (refl, (refl, tt)))))), ((refl, (refl, (refl, tt))), ((refl, (refl, (refl, (refl, tt)))), tt))),
+      ),
+    ),
+  ),
+)
+
+-- Run H with its places, the calls as they are decided. LL1 was requested first and is decided last, and it stands before the store of
+-- 20, since its answer is 7.
+abbrev pub h-load : Call ℕ
+h-load = call 0 19 1 0 load (value 7)
+
+abbrev pub h-calls : List (Call ℕ)
+h-calls = call 2 5 0 0 load (value 7) ∷ call 6 8 0 0 (store 20) done ∷ call 11 14 0 0 load (value 20) ∷ h-load ∷ []
+
+pub run-h : InOrder 7 h-calls
+run-h = record {
+  order = call 2 5 0 0 load (value 7) ∷ h-load ∷ call 6 8 0 0 (store 20) done ∷ call 11 14 0 0 load (value 20) ∷ [];
+  once = Perm·cons _ (Perm·symm (perm-append-singleton h-load (call 6 8 0 0 (store 20) done ∷ call 11 14 0 0 load (value 20) ∷ [])));
+  inTime = omega arith;
+  plays = (refl, (refl, (refl, (refl, tt))));
+}
+
+-- A call decided at 1 does not stand behind one that was requested at 5.
+pub no-turning-back : (p q v w : ℕ) (o o′ : Op ℕ) (r r′ : Answer ℕ) → ¬ InTime (call 5 6 p v o r ∷ call 0 1 q w o′ r′ ∷ [])
+no-turning-back p q v w o o′ r r′ h = omega (arith, h .0 .0)

@@ -1,0 +1,30 @@
+-- The theorems on atomic linked words, for any number of words and any type of values. Which file says what, bottom up:
+--     Agree     the definitions at document 01's runs; an order holds exactly the calls given (stands, given)
+--     Lists     facts on every element of a list, with no word in them
+--     Put       a function changed at one place, and at two (change-comm)
+--     Play      the end of play (after); a list played in two parts
+--     Changes   the changes of a word in a list (changed, total, valueAfter), and count and value at the end of play
+--     From      the place before change n + 1 of a word (place), and facts on all that stands from there on (From)
+--     Relink    a link set earlier than it was: nobody but its process notices (plays-relink, after-relink)
+--     Insert    a load put in before change n + 1 of its word (ins, ins-plays, ins-after, ins-in-time)
+--     RealTime  "stands first" by places of the order (stands-first)
+--     Good      an order of the calls decided so far, and the three ways in which it goes on
+--     Decide    playing and real time decided by computing
+-- A machine's proof needs this of them:
+--     the order      good-start, good-tick, good-append, good-load; at the end good-order and good-first
+--     a request      own-new; for the calls of others after it own-snoc, own-ins
+--     a load's step  late-new at its first; after it late-snoc, late-ins, late-later; they and `own` make the MayLoad of good-load
+--     totals         good-count, good-value; total-snoc, total-quiet, total-ins; value-snoc, value-new, value-ins
+--     what is quiet  writes-nothing, writes-other; what a store writes: writes-own
+--     links          good-load-after with link-own, link-others, other-word; after-snoc with link-kept
+pub mod Agree
+pub mod Changes
+pub mod Decide
+pub mod From
+pub mod Good
+pub mod Insert
+pub mod Lists
+pub mod Play
+pub mod Put
+pub mod RealTime
+pub mod Relink
