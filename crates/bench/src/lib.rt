@@ -4,6 +4,7 @@ use step::Version;
 
 pub mod note;
 mod part;
+pub mod whole;
 
 
 // What a run returns: 0 or what turned the file away, in which block, and the state after the last entry (zeros where the file

@@ -14,7 +14,7 @@ use schedule::entry_at;
 use step::{Process, Version};
 
 // Plays the whole entries of a part and writes their records into the front of the rest of the log.
-fn play_part(part: &[u8], rest: &mut [u8], from: Played) -> Played
+pub(crate) fn play_part(part: &[u8], rest: &mut [u8], from: Played) -> Played
     requires { ⌜ (Ready (from .state)) × (12 * (length (now part) / 12) ≤ length (now rest)) × (from .changes .0 + length (now part) / 12 < 4294967295) ⌝ }
     ensures { λ r. ⌜ (r ≡ playedFrom from (partEntries (now (part .entry)) (length (now (part .entry)) / 12))) × (now (rest .exit) ≡ recordsFrom from (partEntries (now (part .entry)) (length (now (part .entry)) / 12)) (now (rest .entry))) ⌝ }
 {

@@ -68,7 +68,7 @@ fn first_state(n: usize, s: Sequence, v: u64) -> State
     }
 }
 
-fn zero_state() -> State
+pub fn zero_state() -> State
     ensures { λ r. ⌜ r ≡ zeroState ⌝ }
 {
     let row = Row {

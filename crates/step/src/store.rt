@@ -22,9 +22,9 @@ pub(crate) fn step_7(x: Tag, own: Record, row: Row, v: u64) -> Stepped
     ensures { λ r. ⌜ r ≡ step7 x own row v ⌝ }
 {
     let next = own.next;
-    let written = write_slot(row, next, v);
+    let stored = write_slot(row, next, v);
     let left = stand_at(own, Place::Store8);
-    go_on(x, left, written)
+    go_on(x, left, stored)
 }
 
 pub(crate) fn step_8(p: Process, x: Tag, own: Record, row: Row) -> Stepped

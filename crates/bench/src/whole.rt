@@ -1,0 +1,102 @@
+// The whole run of a file with a lent log.
+ghost use mathlib.Core.Path.{_≡_};
+ghost use mathlib.Core.Bool.{true};
+ghost use Prim.Native.Nat.{_+_, _*_, _≤_, _<_};
+ghost use lib.ListN.{length};
+ghost use Rattle.schedule.specs.File.{reading, isAccepted, fileEntries};
+ghost use Rattle.machine.proofs.Runs.{Ready};
+ghost use Rattle.bench.specs.Asked.{askedOf};
+ghost use Rattle.bench.specs.Play.{playedFrom, recordsFrom};
+ghost use Rattle.bench.specs.Bench.{turned, notesOf, lastState, written, ranBy, logBy, ranOf, logAfter};
+use crate::part::play_part;
+use crate::{Played, Ran};
+use log::write::lay_head;
+ghost use Rattle.log.specs.Log.{logLength};
+use machine::State;
+use machine::opening::{start, zero_state};
+use schedule::{Reading, block_of, read_file, used_entries};
+use step::{Sequence, Version};
+
+// The blocks after block 0 in turn, each through the part with its entries.
+fn play_blocks(file: &[u8], rest: &mut [u8], from: Played) -> Played
+    requires { ⌜ (isAccepted (reading (now file)) ≡ true) × (Ready (from .state)) × (12 * length (fileEntries (now file)) ≤ length (now rest)) × (from .changes .0 + length (fileEntries (now file)) < 4294967295) ⌝ }
+    ensures { λ r. ⌜ (r ≡ playedFrom from (askedOf (now (file .entry)))) × (now (rest .exit) ≡ recordsFrom from (askedOf (now (file .entry))) (now (rest .entry))) ⌝ }
+{
+    let after = file.len() / 512 - 1;
+    let mut played = from;
+    let mut done = 0;
+    let mut i = 0;
+    while done < after {
+        let k = done + 1;
+        let b = block_of(file, k);
+        let part = used_entries(b);
+        let c = part.len() / 12;
+        let at = 12 * i;
+        let next = play_part(part, &mut rest[at..], played);
+        played = next;
+        i = i + c;
+        done = k;
+    }
+    played
+}
+
+fn turn_away(number: usize, block: usize) -> Ran
+    ensures { λ r. ⌜ r ≡ turned number block ⌝ }
+{
+    let state = zero_state();
+    Ran {
+        number: number,
+        block: block,
+        state: state,
+    }
+}
+
+// An accepted file with room for its log. The head is laid first, with no change counted yet; the records go into the rest
+// behind it; and once the changes are known the head is laid with their count.
+fn run_entries(file: &[u8], log: &mut [u8], n: u8, s: u64, v: u64, entries: usize) -> State
+    requires { ⌜ (reading (now file) ≡ Reading.Accepted n s v entries) × (logLength entries ≤ length (now log)) ⌝ }
+    ensures { λ r. ⌜ (r ≡ lastState (now (file .entry)) n s v) × (now (log .exit) ≡ written (notesOf (now (file .entry)) n s v) n (now (log .entry))) ⌝ }
+{
+    let size = n as usize;
+    let started = start(size, Sequence(s), v);
+    let state = started.state;
+    let from = Played {
+        state: state,
+        changes: Version(0),
+    };
+    let count = entries as u32;
+    lay_head(log, count, 0, n);
+    let played = play_blocks(file, &mut log[12..], from);
+    let last = played.state;
+    let changes = played.changes.0 as u32;
+    lay_head(log, count, changes, n);
+    last
+}
+
+fn run_accepted(file: &[u8], log: &mut [u8], n: u8, s: u64, v: u64, entries: usize) -> Ran
+    requires { ⌜ reading (now file) ≡ Reading.Accepted n s v entries ⌝ }
+    ensures { λ r. ⌜ (r ≡ ranBy (now (file .entry)) (now (log .entry)) (Reading.Accepted n s v entries)) × (now (log .exit) ≡ logBy (now (file .entry)) (now (log .entry)) (Reading.Accepted n s v entries)) ⌝ }
+{
+    let need = 12 + 12 * entries;
+    if need <= log.len() {
+        let state = run_entries(file, log, n, s, v, entries);
+        Ran {
+            number: 0,
+            block: 0,
+            state: state,
+        }
+    } else {
+        turn_away(6, 0)
+    }
+}
+
+// A file and a lent log: what the run returns, with the state that it ends in.
+pub fn run(file: &[u8], log: &mut [u8]) -> Ran
+    ensures { λ r. ⌜ (r ≡ ranOf (now (file .entry)) (now (log .entry))) × (now (log .exit) ≡ logAfter (now (file .entry)) (now (log .entry))) ⌝ }
+{
+    let answer = read_file(file);
+    match answer {
+        Reading::Refused { number, block } => turn_away(number, block),
+        Reading::Accepted { n, s, v, entries } => run_accepted(file, log, n, s, v, entries),
+    }
+}
