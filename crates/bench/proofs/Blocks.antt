@@ -30,7 +30,7 @@ unfolding playedFrom
 played-append from es fs =
     let st = from .state in
     let counts : from .changes .0 + changeCount (notes st es) + changeCount (notes (after st es) fs) ≡ from .changes .0 + changeCount (notes st (es ++ fs)) =
-        rw (notes-append, count-append) (omega arith) in
+    rw (notes-append, count-append) (omega arith) in
     λ k. record { state = sym (after-append st es fs) k; changes = record { 0 = counts k } }
 
 -- The records of the part that comes next are laid behind those that are there.
@@ -46,8 +46,10 @@ records-grow from es fs rest₀ rest back at place is laid =
   where
     done : List ℕ
     done = recordsOf (map inLog (notes (from .state) es))
+
     long : length done ≡ at
     long = rw (place, records-length, length-map, notes-length)
+
     more : 12 * (length es + length fs) ≡ 12 * length es + 12 * length fs
     more = omega arith
 
@@ -77,6 +79,7 @@ entries-fewer f k (suc n) l = go (decLe k n) (λ h. entries-fewer f k n h)
   where
     more : length (entriesTo f (suc n)) ≡ length (entriesTo f n) + count (blockAt f (n + 1))
     more = ap (λ (m : ℕ). length (entriesTo f m)) (sym (add-one n)) ∙ entries-more f n
+
     go : Dec (k ≤ n) → (k ≤ n → length (entriesTo f k) ≤ length (entriesTo f n)) → length (entriesTo f k) ≤ length (entriesTo f (suc n))
     go (yes h) below = omega (arith, below h, more)
     go (no ge) below =
@@ -99,16 +102,17 @@ pub walk-start : (f rest₀ : List ℕ) (from : Played) → isAccepted (reading 
     → from .changes .0 + length (fileEntries f) < 4294967295 → Walk f rest₀ (length f / 512 - 1) from rest₀ from 0 0
 unfolding playedFrom recordsFrom after notes changeCount recordsOf
 walk-start f rest₀ from ok ready room few =
-    record
-    { ok = ok
-    ; ready = ready
-    ; room = room
-    ; few = few
-    ; blocks = refl
-    ; within = omega arith
-    ; place = rw (entries-none f)
-    ; state = rw (entries-none f) (λ k. record { state = from .state; changes = record { 0 = none k } })
-    ; log = rw (entries-none f) }
+    record {
+      ok = ok;
+      ready = ready;
+      room = room;
+      few = few;
+      blocks = refl;
+      within = omega arith;
+      place = rw (entries-none f);
+      state = rw (entries-none f) (λ k. record { state = from .state; changes = record { 0 = none k } });
+      log = rw (entries-none f);
+    }
   where
     none : from .changes .0 ≡ from .changes .0 + 0
     none = omega arith
@@ -165,19 +169,20 @@ module _ {f rest₀ : List ℕ} {last : ℕ} {from : Played} {rest : List ℕ} {
         → (back : List ℕ) → back ≡ recordsFrom played (partEntries part (length part / 12)) (take (length rest - 12 * i) (drop (12 * i) rest))
         → Walk f rest₀ last from (take (12 * i) rest ++ (back ++ drop (length rest - 12 * i) (drop (12 * i) rest))) next (done + 1) (i + length part / 12)
     walk-next next goes back writes =
-        record
-        { ok = h .ok
-        ; ready = h .ready
-        ; room = h .room
-        ; few = h .few
-        ; blocks = h .blocks
-        ; within = omega arith
-        ; place = rw part-count (sym next-count)
-        ; state = goes ∙ rw (entries-are, h .state, played-append) (ap (playedFrom from) file-entries)
-        ; log =
-            records-grow from (map asked (entriesTo f done)) (map asked (blockEntries (blockAt f (done + 1)))) rest₀ rest back (12 * i)
-            (rw (length-map, h .place)) (h .log) (writes ∙ rw (entries-are, h .state))
-            ∙ ap (λ (es : List Entry). recordsFrom from es rest₀) file-entries }
+        record {
+          ok = h .ok;
+          ready = h .ready;
+          room = h .room;
+          few = h .few;
+          blocks = h .blocks;
+          within = omega arith;
+          place = rw part-count (sym next-count);
+          state = goes ∙ rw (entries-are, h .state, played-append) (ap (playedFrom from) file-entries);
+          log =
+              records-grow from (map asked (entriesTo f done)) (map asked (blockEntries (blockAt f (done + 1)))) rest₀ rest back (12 * i)
+              (rw (length-map, h .place)) (h .log) (writes ∙ rw (entries-are, h .state))
+              ∙ ap (λ (es : List Entry). recordsFrom from es rest₀) file-entries;
+        }
 
   pub walk-end : last ≤ done → (played ≡ playedFrom from (askedOf f)) × (rest ≡ recordsFrom from (askedOf f) rest₀)
   unfolding askedOf

@@ -1,3 +1,4 @@
 pub mod Turn
 pub mod Blocks
 pub mod WholeRun
+pub mod Numbers

@@ -69,12 +69,13 @@ module _ (st : State) (e : Entry) (h : Ready st) where
     where
       counted : ℕ → log.Note
       counted k =
-          record
-          { outcome = toldOf (left .outcome) .number
-          ; process = e .process .0
-          ; steps = k
-          ; mark = toldOf (left .outcome) .mark
-          ; value = toldOf (left .outcome) .value }
+          record {
+            outcome = toldOf (left .outcome) .number;
+            process = e .process .0;
+            steps = k;
+            mark = toldOf (left .outcome) .mark;
+            value = toldOf (left .outcome) .value;
+          }
 
   -- where an entry leads, and whether X changed
   pub state-left : played st e .state ≡ withStepped st (seat st e) (given st e) left .state
@@ -142,37 +143,47 @@ module _ {part rest₀ : List ℕ} {n : ℕ} {s : Sequence} {end : ℕ} {st₀ :
       → (back : List ℕ) → back ≡ laid (recordOf note) (take (length rest - 12 * j) (drop (12 * j) rest))
       → Turn part rest₀ n s end st₀ changes₀ (take (12 * j) rest ++ (back ++ drop (length rest - 12 * j) (drop (12 * j) rest))) (withStepped st i q m .state) changes′ (j + 1)
   turn-next l e is i q at row m goes note says changes′ counts back laid′ =
-      record
-      { within = omega arith
-      ; size = h .size
-      ; last = h .last
-      ; ready = h .ready
-      ; room = h .room
-      ; few = h .few
-      ; state = rw (left-is, row-is, seat-is) (sym (now-after ∙ state-left st e ready-now))
-      ; count = omega (arith, counts, h .count, total)
-      ; log = grown done (recordOf note) rest₀ rest back (12 * j) (records-so-far part st₀ j) (omega (arith, record-length note, h .room)) (h .log) laid′ ∙ rw (record-length note, place, more) }
+      record {
+        within = omega arith;
+        size = h .size;
+        last = h .last;
+        ready = h .ready;
+        room = h .room;
+        few = h .few;
+        state = rw (left-is, row-is, seat-is) (sym (now-after ∙ state-left st e ready-now));
+        count = omega (arith, counts, h .count, total);
+        log = grown done (recordOf note) rest₀ rest back (12 * j) (records-so-far part st₀ j) (omega (arith, record-length note, h .room)) (h .log) laid′ ∙ rw (record-length note, place, more);
+      }
     where
       seat-is : i ≡ seat st e
       seat-is = rw size-now at
+
       row-is : q ≡ given st e
       row-is = row ∙ ap (λ (k : ℕ). rowGiven k (recordAt st k) (e .kind)) seat-is
+
       left-is : m ≡ playedParts (st .n) (st .s) (e .process) (st .x) (recordAt st (seat st e)) (rowAt st (given st e)) (e .kind)
       left-is = cc (goes, size-now, last-now, seat-is, row-is)
+
       done : List ℕ
       done = recordsOf (map inLog (notes st₀ (partEntries part j)))
+
       now-after : after st₀ (partEntries part (j + 1)) ≡ played st e .state
       now-after = rw (h .state, is) (after-more part st₀ j)
+
       note-now : noteOf (after st₀ (partEntries part j)) (asked (entryAt part j)) ≡ noteOf st e
       note-now = rw (h .state, is)
+
       total : changeCount (notes st₀ (partEntries part (j + 1))) ≡ changeCount (notes st₀ (partEntries part j)) + cond (not (sameTag (st .x) (m .x))) 1 0
       total =
           rw (notes-more part st₀ j, count-append, note-now, left-is)
           (ap (λ (k : ℕ). changeCount (notes st₀ (partEntries part j)) + k) (change-counted st e ready-now))
+
       note-is : note ≡ inLog (noteOf st e)
       note-is = cc (says, note-written st e ready-now, seat-is, left-is)
+
       more : done ++ recordOf note ≡ recordsOf (map inLog (notes st₀ (partEntries part (j + 1))))
       more = rw (notes-more part st₀ j, map-append, records-more, note-is) (ap (λ (w : Note). done ++ recordOf (inLog w)) (sym note-now))
+
       place : 12 * j + 12 ≡ 12 * (j + 1)
       place = omega arith
 
@@ -203,6 +214,7 @@ module _ {part rest₀ : List ℕ} {n : ℕ} {s : Sequence} {end : ℕ} {st₀ :
     where
       top : j ≡ end
       top = omega (arith, h .within, l)
+
       played-is : record { state = st; changes = changes } ≡ playedFrom (record { state = st₀; changes = changes₀ }) (partEntries part end)
       played-is = rw (← top) (λ k. record { state = h .state k; changes = record { 0 = h .count k } })
 

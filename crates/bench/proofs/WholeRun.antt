@@ -41,18 +41,21 @@ module _ (f : List ℕ) (n s v c : ℕ) (is : reading f ≡ Accepted n s v c) wh
   few-entries = rw entry-count (accepted-bound f accepted)
 
   -- block 0 was tried for the range that a start asks
-  range : inRange n (record { 0 = s }) ≡ true
+  pub range : inRange n (record { 0 = s }) ≡ true
   range =
       let a = accepted-answer f is in
       rw (a .1 .0, a .1 .1 .0) (accepted-start f accepted .0)
 
-  ready : Ready (startState n s v)
+  -- so the start is taken
+  pub start-is : startState n s v ≡ firstState n (record { 0 = s }) v
   unfolding startOf
-  ready =
-      subst
-      (λ (b : Bool). Ready (cond {A = Started} b (record { state = firstState n (record { 0 = s }) v; start = Start.Ready }) (record { state = zeroState; start = Start.OutOfRange }) .state))
-      (sym range)
-      (ready-start n (record { 0 = s }) v range)
+  start-is =
+      ap
+      (λ (b : Bool). cond {A = Started} b (record { state = firstState n (record { 0 = s }) v; start = Start.Ready }) (record { state = zeroState; start = Start.OutOfRange }) .state)
+      range
+
+  ready : Ready (startState n s v)
+  ready = rw start-is (ready-start n (record { 0 = s }) v range)
 
   -- what the records' writer is given
   module _ (started : Started) (begun : started ≡ startOf n (record { 0 = s }) v) where
@@ -103,13 +106,18 @@ module _ (f : List ℕ) (n s v c : ℕ) (is : reading f ≡ Accepted n s v c) wh
           where
             head : List ℕ
             head = headOf c (played .changes .0) n
+
             ws : List Note
             ws = notesOf f n s v
+
             long : length ws ≡ length (askedOf f)
             long = notes-length (startState n s v) (askedOf f)
+
             counted : c ≡ length ws
             counted = entry-count ∙ sym (long ∙ asked-length f)
+
             none : 0 + changeCount ws ≡ changeCount ws
             none = omega arith
+
             count-is : played .changes .0 ≡ changeCount ws
             count-is = rw (goes, begun) none

@@ -39,12 +39,13 @@ inLog w = record { outcome = w .outcome; process = w .process; steps = w .steps;
 -- the record of an entry, from the place before it and its outcome
 abbrev pub recordFrom : ℕ → Kind → Place → Outcome → Note.Note
 recordFrom p kind place outcome =
-    record
-    { outcome = toldOf outcome .number
-    ; process = p
-    ; steps = stepsBy place kind outcome
-    ; mark = toldOf outcome .mark
-    ; value = toldOf outcome .value }
+    record {
+      outcome = toldOf outcome .number;
+      process = p;
+      steps = stepsBy place kind outcome;
+      mark = toldOf outcome .mark;
+      value = toldOf outcome .value;
+    }
 
 -- the entries that stand in a part of twelve bytes each
 unfoldable pub partEntries : List ℕ → ℕ → List Run.Entry

@@ -6,7 +6,6 @@ pub mod note;
 mod part;
 pub mod whole;
 
-
 // What a run returns: 0 or what turned the file away, in which block, and the state after the last entry (zeros where the file
 // was turned away).
 pub struct Ran {

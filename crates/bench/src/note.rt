@@ -8,9 +8,12 @@ use log::Note;
 use machine::Kind;
 use machine::parts::steps_by;
 use schedule::Entry;
+use step::Outcome;
+use step::Place;
+use step::Tag;
+use step::Version;
 use step::answer::tell;
 use step::number::same_tag;
-use step::{Outcome, Place, Tag, Version};
 
 // The process that an entry names.
 pub fn process_of(entry: Entry) -> u8

@@ -7,11 +7,17 @@ ghost use Rattle.machine.proofs.Runs.{Ready};
 ghost use Rattle.bench.specs.Asked.{partEntries};
 ghost use Rattle.bench.specs.Play.{playedFrom, recordsFrom};
 use crate::Played;
-use crate::note::{count, kind_of, note_of, process_of};
+use crate::note::count;
+use crate::note::kind_of;
+use crate::note::note_of;
+use crate::note::process_of;
 use log::write::write_record;
-use machine::parts::{play_parts, row_given, seat_of};
+use machine::parts::play_parts;
+use machine::parts::row_given;
+use machine::parts::seat_of;
 use schedule::entry_at;
-use step::{Process, Version};
+use step::Process;
+use step::Version;
 
 // Plays the whole entries of a part and writes their records into the front of the rest of the log.
 pub(crate) fn play_part(part: &[u8], rest: &mut [u8], from: Played) -> Played

@@ -7,15 +7,21 @@ ghost use Rattle.schedule.specs.File.{reading, isAccepted, fileEntries};
 ghost use Rattle.machine.proofs.Runs.{Ready};
 ghost use Rattle.bench.specs.Asked.{askedOf};
 ghost use Rattle.bench.specs.Play.{playedFrom, recordsFrom};
-ghost use Rattle.bench.specs.Bench.{turned, notesOf, lastState, written, ranBy, logBy, ranOf, logAfter};
+ghost use Rattle.bench.specs.Bench.{turned, notesOf, lastState, written, ranBy, logBy, ranOf, logAfter, cNumber};
+use crate::Played;
+use crate::Ran;
 use crate::part::play_part;
-use crate::{Played, Ran};
 use log::write::lay_head;
 ghost use Rattle.log.specs.Log.{logLength};
 use machine::State;
-use machine::opening::{start, zero_state};
-use schedule::{Reading, block_of, read_file, used_entries};
-use step::{Sequence, Version};
+use machine::opening::start;
+use machine::opening::zero_state;
+use schedule::Reading;
+use schedule::block_of;
+use schedule::read_file;
+use schedule::used_entries;
+use step::Sequence;
+use step::Version;
 
 // The blocks after block 0 in turn, each through the part with its entries.
 fn play_blocks(file: &[u8], rest: &mut [u8], from: Played) -> Played
@@ -99,4 +105,16 @@ pub fn run(file: &[u8], log: &mut [u8]) -> Ran
         Reading::Refused { number, block } => turn_away(number, block),
         Reading::Accepted { n, s, v, entries } => run_accepted(file, log, n, s, v, entries),
     }
+}
+
+// What the receiver's C test rig calls: 0, or number + 256 times block.
+#[no_mangle]
+pub extern "C" fn reefcapstan_run(file: &[u8], log: &mut [u8]) -> u32
+    ensures { λ r. ⌜ (r ≡ cNumber (now (file .entry)) (now (log .entry))) × (now (log .exit) ≡ logAfter (now (file .entry)) (now (log .entry))) ⌝ }
+{
+    let ran = run(file, log);
+    let number = ran.number;
+    let block = ran.block;
+    let all = number + 256 * block;
+    all as u32
 }

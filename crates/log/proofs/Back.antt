@@ -29,9 +29,13 @@ number-back before behind (suc width) n =
     let more = bytesOf width (n / 256) ++ behind in
     let place : length before + 1 ≡ length (before ++ (low ∷ [])) = rw length-append (omega arith) in
     let rest : numberAt (before ++ (low ∷ more)) (length before + 1) width ≡ n / 256 % 256 ^ width =
-        rw (← append-snoc before low more, place) (number-back (before ++ (low ∷ [])) behind width (n / 256)) in
+    rw (← append-snoc before low more, place) (number-back (before ++ (low ∷ [])) behind width (n / 256)) in
     let high : n % (256 ^ width * 256) ≡ n / 256 % 256 ^ width * 256 + low = mod-mul n (one-le-pow width 256 (lit< tt)) (lit< tt) in
     rw (getD-append-seam before low more 0, rest, pow-suc, high, mul-comm 256, add-comm low)
+
+-- A number of eight bytes is made of two of four.
+pub eight-of-fours : (part : List ℕ) (at : ℕ) → numberAt part at 4 + 2 ^ 32 * numberAt part (at + 1 + 1 + 1 + 1) 4 ≡ numberAt part at 8
+eight-of-fours part at = omega arith
 
 pub note-back : (note : Note) (behind : List ℕ) → note .value < 2 ^ 64 → noteIn (recordOf note ++ behind) ≡ note
 unfolding noteIn recordOf
@@ -46,9 +50,9 @@ unfolding headIn headOf
 head-back entries changes n behind h k =
     let tail = n ∷ 0 ∷ 0 ∷ 0 ∷ behind in
     let a : numberAt (headOf entries changes n ++ behind) 0 4 ≡ entries =
-        number-back [] (bytesOf 4 changes ++ tail) 4 entries ∙ mod-eq-of-lt h in
+    number-back [] (bytesOf 4 changes ++ tail) 4 entries ∙ mod-eq-of-lt h in
     let b : numberAt (headOf entries changes n ++ behind) 4 4 ≡ changes =
-        number-back (bytesOf 4 entries) tail 4 changes ∙ mod-eq-of-lt k in
+    number-back (bytesOf 4 entries) tail 4 changes ∙ mod-eq-of-lt k in
     rw (a, b)
 
 -- Two entries with the same record are the same.
@@ -73,10 +77,10 @@ module _ (changes n : ℕ) (rest : List ℕ) where
       let front = head ++ recordsOf first in
       let behind = recordsOf then ++ rest in
       let e : (head ++ recordsOf (first ++ note ∷ then)) ++ rest ≡ front ++ (recordOf note ++ behind) =
-          rw (records-append first (note ∷ then)) (simp append-assoc) in
-      let place : length front ≡ logLength (length first) = rw (length-append, head-length, records-length) in
+      rw (records-append first (note ∷ then)) (simp append-assoc) in
+      let place : length front ≡ logLength (length first) = rw (length-append head (recordsOf first), head-length, records-length) in
       let there : logLength (length first + 1) ≤ length (front ++ (recordOf note ++ behind)) =
-          rw (length-append front, length-append (recordOf note), record-length, place) (omega arith) in
+      rw (length-append front, length-append (recordOf note), record-length, place) (omega arith) in
       rw (e, le-leb _ _ there, drop-at front (recordOf note ++ behind) _ place, note-back note behind h)
 
   pub note-read : (notes : List Note) (i : ℕ) (none : Note) → i < length notes → getD notes i none .value < 2 ^ 64

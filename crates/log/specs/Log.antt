@@ -39,12 +39,13 @@ headIn log = record { entries = numberAt log 0 4; changes = numberAt log 4 4; n 
 
 unfoldable pub noteIn : List ℕ → Note
 noteIn part =
-    record
-    { outcome = getD part 0 0
-    ; process = getD part 1 0
-    ; steps = getD part 2 0
-    ; mark = getD part 3 0
-    ; value = numberAt part 4 8 }
+    record {
+      outcome = getD part 0 0;
+      process = getD part 1 0;
+      steps = getD part 2 0;
+      mark = getD part 3 0;
+      value = numberAt part 4 8;
+    }
 
 -- The head is there where its twelve bytes are.
 unfoldable pub headFound : List ℕ → HeadFound

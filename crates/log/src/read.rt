@@ -4,7 +4,10 @@ ghost use Prim.Native.Nat.{_+_, _≤_, _<_};
 ghost use lib.ListN.{length};
 ghost use Rattle.log.specs.Bytes.{numberAt};
 ghost use Rattle.log.specs.Log.{headIn, headFound, noteIn, noteFound};
-use crate::{Head, HeadFound, Note, NoteFound};
+use crate::Head;
+use crate::HeadFound;
+use crate::Note;
+use crate::NoteFound;
 
 // A byte at a width in which sums of bytes fit.
 fn wide(x: u8) -> u32
@@ -20,7 +23,8 @@ fn read_four(part: &[u8], at: usize) -> u32
     let second = at + 1;
     let third = second + 1;
     let fourth = third + 1;
-    wide(part[at]) + 256 * (wide(part[second]) + 256 * (wide(part[third]) + 256 * wide(part[fourth])))
+    wide(part[at])
+        + 256 * (wide(part[second]) + 256 * (wide(part[third]) + 256 * wide(part[fourth])))
 }
 
 fn load_head(log: &[u8]) -> Head

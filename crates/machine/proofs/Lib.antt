@@ -4,5 +4,6 @@ pub mod Frame
 pub mod SoundKept
 pub mod Runs
 pub mod Refusals
+pub mod EntryByParts
 pub mod PartsOfRun
 pub mod RunsAToL

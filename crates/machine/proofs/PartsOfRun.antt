@@ -17,7 +17,8 @@ use Rattle.machine.specs.declared.State.{State}
 use Rattle.machine.specs.declared.Kind.{Kind}
 use Rattle.machine.specs.declared.Kind.the-variants.{Load, Store, Check, Step}
 use Rattle.machine.specs.declared.Answer.{Answer}
-use Rattle.machine.proofs.Soundness.{range-of, row-below}
+use Rattle.machine.proofs.Soundness.{range-of, given-below}
+use Rattle.machine.proofs.EntryByParts.{entered-parts}
 use Rattle.machine.proofs.Runs.{Ready, played-ready}
 
 -- the seat and the row of an entry
@@ -27,15 +28,6 @@ seat st e = seatOf (st .n) (e .process)
 abbrev pub given : State → Entry → ℕ
 given st e = rowGiven (seat st e) (recordAt st (seat st e)) (e .kind)
 
--- A request puts back the row as it was.
-entered-parts : (st : State) (p : Process) (kind : Kind) → (j : ℕ) → j ≡ rowGiven (p .0) (recordAt st (p .0)) kind
-    → entered st p kind ≡ withStepped st (p .0) j (kindParts (st .s) p (st .x) (recordAt st (p .0)) (rowAt st j) kind)
-unfolding requested stepped
-entered-parts st p Load j e = rw set-getD
-entered-parts st p (Store v) j e = rw set-getD
-entered-parts st p Check j e = rw set-getD
-entered-parts st p Step j e = rw e
-
 pub played-by-parts : (st : State) (e : Entry) → Ready st
     → played st e ≡ withStepped st (seat st e) (given st e) (playedParts (st .n) (st .s) (e .process) (st .x) (recordAt st (seat st e)) (rowAt st (given st e)) (e .kind))
 unfolding playedParts
@@ -43,8 +35,10 @@ played-by-parts st e h = played-ready st e h ∙ go (ltb (e .process .0) (st .n)
   where
     p : Process
     p = e .process
+
     at : Bool → ℕ
     at b = cond b (p .0) 0
+
     go : (b : Bool)
         → cond b (entered st p (e .kind)) (refused st NoProcess)
         ≡ withStepped st (at b) (rowGiven (at b) (recordAt st (at b)) (e .kind))
@@ -62,18 +56,11 @@ module _ (st : State) (e : Entry) (h : Ready st) where
       go true t = ltb-true (e .process .0) (st .n) t
       go false t = range-of (st .n) (st .s) (h .sure .range) .some
 
-  given-below : given st e < st .n
-  given-below = go (e .kind)
-    where
-      go : (kind : Kind) → rowGiven (seat st e) (recordAt st (seat st e)) kind < st .n
-      go Load = seat-below
-      go (Store v) = seat-below
-      go Check = seat-below
-      go Step =
-          row-below (record { 0 = seat st e }) (recordAt st (seat st e)) (st .n) seat-below (h .sure .each (seat st e) seat-below .kept .owner)
+  row-within : given st e < st .n
+  row-within = given-below (seat st e) (recordAt st (seat st e)) (e .kind) (st .n) seat-below (h .sure .each (seat st e) seat-below .kept .owner)
 
   pub seat-within : seat st e < 16
   seat-within = omega (arith, seat-below, range-of (st .n) (st .s) (h .sure .range) .few)
 
   pub given-within : given st e < 16
-  given-within = omega (arith, given-below, range-of (st .n) (st .s) (h .sure .range) .few)
+  given-within = omega (arith, row-within, range-of (st .n) (st .s) (h .sure .range) .few)

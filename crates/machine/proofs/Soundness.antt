@@ -16,7 +16,10 @@ use Rattle.step.specs.declared.Record.{Record}
 use Rattle.step.specs.declared.Place.{Place}
 use Rattle.step.specs.declared.Place.the-variants.{Idle, Load1, Load2, Load3, Load5, Store7, Store8, Store9, Store10, Check14}
 use Rattle.machine.specs.State.{inRange, soundTag, soundNext, storing, soundStore, soundRecord, soundParts, soundProcess, allBelow, sound, rowAt, recordAt}
+use Rattle.machine.specs.Parts.{rowGiven}
 use Rattle.machine.specs.declared.State.{State}
+use Rattle.machine.specs.declared.Kind.{Kind}
+use Rattle.machine.specs.declared.Kind.the-variants.{Load, Store, Check, Step}
 use Rattle.machine.proofs.Tests.{and-left, and-right, and-both}
 
 -- "whether a test passes for each number below n" says just that
@@ -150,10 +153,17 @@ row-below p own n h k = go (own .place)
     go Store10 = h
     go Check14 = h
 
--- A process below N of a sound state, and the row that its step reaches, are among the 16.
-pub within-sixteen : (st : State) (p : Process) → sound st ≡ true → p .0 < st .n → (p .0 < 16) × (reached p (recordAt st (p .0)) .0 < 16)
-within-sixteen st p e h =
+-- The row that an entry is given is its seat's or the one that a step reaches.
+pub given-below : (seat : ℕ) (own : Record) (kind : Kind) (n : ℕ) → seat < n → own .kept .process .0 < n → rowGiven seat own kind < n
+given-below seat own Load n h k = h
+given-below seat own (Store v) n h k = h
+given-below seat own Check n h k = h
+given-below seat own Step n h k = row-below (record { 0 = seat }) own n h k
+
+-- A process below N of a sound state, and the row that its entry is given, are among the 16.
+pub within-sixteen : (st : State) (p : Process) (kind : Kind) → sound st ≡ true → p .0 < st .n → (p .0 < 16) × (rowGiven (p .0) (recordAt st (p .0)) kind < 16)
+within-sixteen st p kind e h =
     let sure = sound-of st e in
     let few = range-of (st .n) (st .s) (sure .range) .few in
-    let row = row-below p (recordAt st (p .0)) (st .n) h (sure .each (p .0) h .kept .owner) in
+    let row = given-below (p .0) (recordAt st (p .0)) kind (st .n) h (sure .each (p .0) h .kept .owner) in
     (omega (arith, h, few), omega (arith, row, few))

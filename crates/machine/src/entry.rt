@@ -1,12 +1,14 @@
 // A direct call: any state, any process number, one of four kinds.
 ghost use mathlib.Core.Path.{_≡_};
 ghost use Prim.Native.Nat.{_<_};
-ghost use Rattle.step.specs.Steps.{reached};
 ghost use Rattle.machine.specs.State.{recordAt};
-ghost use Rattle.machine.specs.Entry.{requested, stepped, entered, called};
+ghost use Rattle.machine.specs.Entry.{entered, called};
+ghost use Rattle.machine.specs.Parts.{rowGiven};
 use crate::Answer;
 use crate::Kind;
 use crate::State;
+use crate::parts::kind_parts;
+use crate::parts::row_given;
 use crate::sound::is_sound;
 use step::Outcome;
 use step::Process;
@@ -15,35 +17,18 @@ use step::call::reached_row;
 use step::call::request;
 use step::call::step;
 
-fn take_request(st: State, p: Process, asked: Request) -> Answer
-    requires { ⌜ p .0 < 16 ⌝ }
-    ensures { λ r. ⌜ r ≡ requested st p asked ⌝ }
+// An entry of a process that is there: its record and its row go out, and what it leaves of them comes back.
+fn enter(st: State, p: Process, kind: Kind) -> Answer
+    requires { ⌜ (p .0 < 16) × (rowGiven (p .0) (recordAt st (p .0)) kind < 16) ⌝ }
+    ensures { λ r. ⌜ r ≡ entered st p kind ⌝ }
 {
     let i = p.0;
     let s = st.s;
-    let own = st.records[i];
-    let r = request(s, own, asked);
-    let left = r.own;
-    let outcome = r.outcome;
-    let mut state = st;
-    state.records[i] = left;
-    Answer {
-        state: state,
-        outcome: outcome,
-    }
-}
-
-fn take_step(st: State, p: Process) -> Answer
-    requires { ⌜ (p .0 < 16) × (reached p (recordAt st (p .0)) .0 < 16) ⌝ }
-    ensures { λ r. ⌜ r ≡ stepped st p ⌝ }
-{
-    let i = p.0;
     let x = st.x;
     let own = st.records[i];
-    let q = reached_row(p, own);
-    let j = q.0;
+    let j = row_given(i, own, kind);
     let row = st.rows[j];
-    let m = step(p, x, own, row);
+    let m = kind_parts(s, p, x, own, row, kind);
     let now = m.x;
     let left = m.own;
     let written = m.row;
@@ -55,18 +40,6 @@ fn take_step(st: State, p: Process) -> Answer
     Answer {
         state: state,
         outcome: outcome,
-    }
-}
-
-fn enter(st: State, p: Process, kind: Kind) -> Answer
-    requires { ⌜ (p .0 < 16) × (reached p (recordAt st (p .0)) .0 < 16) ⌝ }
-    ensures { λ r. ⌜ r ≡ entered st p kind ⌝ }
-{
-    match kind {
-        Kind::Load => take_request(st, p, Request::Load),
-        Kind::Store(v) => take_request(st, p, Request::Store(v)),
-        Kind::Check => take_request(st, p, Request::Check),
-        Kind::Step => take_step(st, p),
     }
 }
 

@@ -8,8 +8,8 @@ use step::Sequence;
 use step::Tag;
 
 pub mod entry;
-pub mod parts;
 pub mod opening;
+pub mod parts;
 pub mod sound;
 
 // n processes, s the last usable sequence number; a row of registers and a record for each of the 16 process numbers.

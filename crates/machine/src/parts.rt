@@ -1,12 +1,23 @@
-// An entry over small parts, for a loop that keeps the state itself: which record and which row the entry is given, and what
-// it leaves of X and of these two. A run's state is sound throughout, so nothing here looks for that.
+// An entry over small parts, for a direct call and for a loop that keeps the state itself: which record and which row the entry is given, and what
+// it leaves of X and of these two. Nothing here looks whether the state is sound.
 ghost use mathlib.Core.Path.{_≡_};
 ghost use Rattle.machine.specs.Parts.{seatOf, rowGiven, askedParts, kindParts, playedParts};
 ghost use Rattle.machine.specs.Run.{stepsBy};
 use crate::Kind;
+use step::Outcome;
+use step::Place;
+use step::Process;
+use step::Record;
+use step::Request;
+use step::Row;
+use step::Sequence;
+use step::Stepped;
+use step::Tag;
 use step::answer::tell;
-use step::call::{own_steps, reached_row, request, step};
-use step::{Outcome, Place, Process, Record, Request, Row, Sequence, Stepped, Tag};
+use step::call::own_steps;
+use step::call::reached_row;
+use step::call::request;
+use step::call::step;
 
 // Whose record an entry of process p is given: p's, and for a process that is not there the first.
 pub fn seat_of(n: usize, p: Process) -> usize
@@ -44,7 +55,14 @@ fn ask_parts(s: Sequence, x: Tag, own: Record, row: Row, asked: Request) -> Step
     }
 }
 
-fn kind_parts(s: Sequence, p: Process, x: Tag, own: Record, row: Row, kind: Kind) -> Stepped
+pub(crate) fn kind_parts(
+    s: Sequence,
+    p: Process,
+    x: Tag,
+    own: Record,
+    row: Row,
+    kind: Kind,
+) -> Stepped
     ensures { λ r. ⌜ r ≡ kindParts s p x own row kind ⌝ }
 {
     match kind {
@@ -56,7 +74,15 @@ fn kind_parts(s: Sequence, p: Process, x: Tag, own: Record, row: Row, kind: Kind
 }
 
 // An entry of process p, given X, its record and its row.
-pub fn play_parts(n: usize, s: Sequence, p: Process, x: Tag, own: Record, row: Row, kind: Kind) -> Stepped
+pub fn play_parts(
+    n: usize,
+    s: Sequence,
+    p: Process,
+    x: Tag,
+    own: Record,
+    row: Row,
+    kind: Kind,
+) -> Stepped
     ensures { λ r. ⌜ r ≡ playedParts n s p x own row kind ⌝ }
 {
     let i = p.0;
@@ -83,12 +109,6 @@ pub fn steps_by(place: Place, kind: Kind, outcome: Outcome) -> u8
         Kind::Load => 0,
         Kind::Store(_) => 0,
         Kind::Check => 0,
-        Kind::Step => {
-            if 11 <= number {
-                0
-            } else {
-                steps
-            }
-        }
+        Kind::Step => { if 11 <= number { 0 } else { steps } }
     }
 }

@@ -56,10 +56,11 @@ part-play-part-end c =
     omega (arith, walk-length inv, so-far-fits inv, inv .room, accepted-bound _ (inv .ok))
 
 play-part-requires : tie.Need-play-part-requires Inv-loop μ-loop
-play-part-requires c κs =
-    ( part-ready (c .before .before .before .before .loop .inv) (c .before .before .before .loop-test .taken) _ _ (c .before .before .block-of .ensures) (c .before .used-entries .ensures)
-    , rw (tail-given, length-drop) (part-room (c .before .before .before .before .loop .inv) (c .before .before .before .loop-test .taken) _ _ (c .before .before .block-of .ensures) (c .before .used-entries .ensures))
-    , part-few (c .before .before .before .before .loop .inv) (c .before .before .before .loop-test .taken) _ _ (c .before .before .block-of .ensures) (c .before .used-entries .ensures) )
+play-part-requires c κs = (
+  part-ready (c .before .before .before .before .loop .inv) (c .before .before .before .loop-test .taken) _ _ (c .before .before .block-of .ensures) (c .before .used-entries .ensures),
+  rw (tail-given, length-drop) (part-room (c .before .before .before .before .loop .inv) (c .before .before .before .loop-test .taken) _ _ (c .before .before .block-of .ensures) (c .before .used-entries .ensures)),
+  part-few (c .before .before .before .before .loop .inv) (c .before .before .before .loop-test .taken) _ _ (c .before .before .block-of .ensures) (c .before .used-entries .ensures),
+)
 
 add-i : tie.Need-add-i Inv-loop μ-loop
 add-i c =

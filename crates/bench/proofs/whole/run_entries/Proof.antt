@@ -28,11 +28,12 @@ part-play-blocks-end : tie.Need-part-play-blocks-end
 part-play-blocks-end c = search needs
 
 play-blocks-requires : tie.Need-play-blocks-requires
-play-blocks-requires c κs =
-    ( accepted (now (c .before .before .before .before .before .before .before .before .before .args .file)) (c .before .before .before .before .before .before .before .before .before .args .n) (c .before .before .before .before .before .before .before .before .before .args .s) (c .before .before .before .before .before .before .before .before .before .args .v) (c .before .before .before .before .before .before .before .before .before .args .entries) (c .before .before .before .before .before .before .before .before .before .pre .0)
-    , start-ready (now (c .before .before .before .before .before .before .before .before .before .args .file)) (c .before .before .before .before .before .before .before .before .before .args .n) (c .before .before .before .before .before .before .before .before .before .args .s) (c .before .before .before .before .before .before .before .before .before .args .v) (c .before .before .before .before .before .before .before .before .before .args .entries) (c .before .before .before .before .before .before .before .before .before .pre .0) _ (c .before .before .before .before .before .before .start .ensures)
-    , rw (tail-given, length-drop) (rest-there (now (c .before .before .before .before .before .before .before .before .before .args .file)) (c .before .before .before .before .before .before .before .before .before .args .n) (c .before .before .before .before .before .before .before .before .before .args .s) (c .before .before .before .before .before .before .before .before .before .args .v) (c .before .before .before .before .before .before .before .before .before .args .entries) (c .before .before .before .before .before .before .before .before .before .pre .0) _ (c .before .before .before .before .before .before .start .ensures) _ (c .before .before .before .before .before .before .before .before .before .pre .1) _ (c .before .before .before .lay-head .ensures))
-    , omega (arith, entry-count (now (c .before .before .before .before .before .before .before .before .before .args .file)) (c .before .before .before .before .before .before .before .before .before .args .n) (c .before .before .before .before .before .before .before .before .before .args .s) (c .before .before .before .before .before .before .before .before .before .args .v) (c .before .before .before .before .before .before .before .before .before .args .entries) (c .before .before .before .before .before .before .before .before .before .pre .0), few-entries (now (c .before .before .before .before .before .before .before .before .before .args .file)) (c .before .before .before .before .before .before .before .before .before .args .n) (c .before .before .before .before .before .before .before .before .before .args .s) (c .before .before .before .before .before .before .before .before .before .args .v) (c .before .before .before .before .before .before .before .before .before .args .entries) (c .before .before .before .before .before .before .before .before .before .pre .0)) )
+play-blocks-requires c κs = (
+  accepted (now (c .before .before .before .before .before .before .before .before .before .args .file)) (c .before .before .before .before .before .before .before .before .before .args .n) (c .before .before .before .before .before .before .before .before .before .args .s) (c .before .before .before .before .before .before .before .before .before .args .v) (c .before .before .before .before .before .before .before .before .before .args .entries) (c .before .before .before .before .before .before .before .before .before .pre .0),
+  start-ready (now (c .before .before .before .before .before .before .before .before .before .args .file)) (c .before .before .before .before .before .before .before .before .before .args .n) (c .before .before .before .before .before .before .before .before .before .args .s) (c .before .before .before .before .before .before .before .before .before .args .v) (c .before .before .before .before .before .before .before .before .before .args .entries) (c .before .before .before .before .before .before .before .before .before .pre .0) _ (c .before .before .before .before .before .before .start .ensures),
+  rw (tail-given, length-drop) (rest-there (now (c .before .before .before .before .before .before .before .before .before .args .file)) (c .before .before .before .before .before .before .before .before .before .args .n) (c .before .before .before .before .before .before .before .before .before .args .s) (c .before .before .before .before .before .before .before .before .before .args .v) (c .before .before .before .before .before .before .before .before .before .args .entries) (c .before .before .before .before .before .before .before .before .before .pre .0) _ (c .before .before .before .before .before .before .start .ensures) _ (c .before .before .before .before .before .before .before .before .before .pre .1) _ (c .before .before .before .lay-head .ensures)),
+  omega (arith, entry-count (now (c .before .before .before .before .before .before .before .before .before .args .file)) (c .before .before .before .before .before .before .before .before .before .args .n) (c .before .before .before .before .before .before .before .before .before .args .s) (c .before .before .before .before .before .before .before .before .before .args .v) (c .before .before .before .before .before .before .before .before .before .args .entries) (c .before .before .before .before .before .before .before .before .before .pre .0), few-entries (now (c .before .before .before .before .before .before .before .before .before .args .file)) (c .before .before .before .before .before .before .before .before .before .args .n) (c .before .before .before .before .before .before .before .before .before .args .s) (c .before .before .before .before .before .before .before .before .before .args .v) (c .before .before .before .before .before .before .before .before .before .args .entries) (c .before .before .before .before .before .before .before .before .before .pre .0)),
+)
 
 cast-changes : tie.Need-cast-changes
 cast-changes c = omega (arith, count-fits (now (c .before .before .before .before .before .before .before .before .before .before .before .before .before .before .args .file)) (c .before .before .before .before .before .before .before .before .before .before .before .before .before .before .args .n) (c .before .before .before .before .before .before .before .before .before .before .before .before .before .before .args .s) (c .before .before .before .before .before .before .before .before .before .before .before .before .before .before .args .v) (c .before .before .before .before .before .before .before .before .before .before .before .before .before .before .args .entries) (c .before .before .before .before .before .before .before .before .before .before .before .before .before .before .pre .0) _ (c .before .before .before .before .before .before .before .before .before .before .before .start .ensures) _ (c .before .before .before .before .play-blocks .ensures .0))
@@ -44,9 +45,10 @@ same-length : tie.Need-same-length
 same-length c = search needs
 
 returns : tie.Need-returns
-returns c =
-    ( last-is (now (c .before .before .before .before .before .before .before .before .before .before .before .before .before .before .before .before .before .before .args .file)) (c .before .before .before .before .before .before .before .before .before .before .before .before .before .before .before .before .before .before .args .n) (c .before .before .before .before .before .before .before .before .before .before .before .before .before .before .before .before .before .before .args .s) (c .before .before .before .before .before .before .before .before .before .before .before .before .before .before .before .before .before .before .args .v) (c .before .before .before .before .before .before .before .before .before .before .before .before .before .before .before .before .before .before .args .entries) (c .before .before .before .before .before .before .before .before .before .before .before .before .before .before .before .before .before .before .pre .0) _ (c .before .before .before .before .before .before .before .before .before .before .before .before .before .before .before .start .ensures) _ (c .before .before .before .before .before .before .before .before .before .before .before .before .before .before .before .before .before .before .pre .1) _ (c .before .before .before .before .before .before .before .before .before .before .before .before .lay-head .ensures) _ (c .before .before .before .before .before .before .before .before .play-blocks .ensures .0) _ (c .before .before .before .before .before .before .before .before .play-blocks .ensures .1)
-    , log-is (now (c .before .before .before .before .before .before .before .before .before .before .before .before .before .before .before .before .before .before .args .file)) (c .before .before .before .before .before .before .before .before .before .before .before .before .before .before .before .before .before .before .args .n) (c .before .before .before .before .before .before .before .before .before .before .before .before .before .before .before .before .before .before .args .s) (c .before .before .before .before .before .before .before .before .before .before .before .before .before .before .before .before .before .before .args .v) (c .before .before .before .before .before .before .before .before .before .before .before .before .before .before .before .before .before .before .args .entries) (c .before .before .before .before .before .before .before .before .before .before .before .before .before .before .before .before .before .before .pre .0) _ (c .before .before .before .before .before .before .before .before .before .before .before .before .before .before .before .start .ensures) _ (c .before .before .before .before .before .before .before .before .before .before .before .before .before .before .before .before .before .before .pre .1) _ (c .before .before .before .before .before .before .before .before .before .before .before .before .lay-head .ensures) _ (c .before .before .before .before .before .before .before .before .play-blocks .ensures .0) _ (c .before .before .before .before .before .before .before .before .play-blocks .ensures .1) _ (c .before .before .lay-head2 .ensures) )
+returns c = (
+  last-is (now (c .before .before .before .before .before .before .before .before .before .before .before .before .before .before .before .before .before .before .args .file)) (c .before .before .before .before .before .before .before .before .before .before .before .before .before .before .before .before .before .before .args .n) (c .before .before .before .before .before .before .before .before .before .before .before .before .before .before .before .before .before .before .args .s) (c .before .before .before .before .before .before .before .before .before .before .before .before .before .before .before .before .before .before .args .v) (c .before .before .before .before .before .before .before .before .before .before .before .before .before .before .before .before .before .before .args .entries) (c .before .before .before .before .before .before .before .before .before .before .before .before .before .before .before .before .before .before .pre .0) _ (c .before .before .before .before .before .before .before .before .before .before .before .before .before .before .before .start .ensures) _ (c .before .before .before .before .before .before .before .before .before .before .before .before .before .before .before .before .before .before .pre .1) _ (c .before .before .before .before .before .before .before .before .before .before .before .before .lay-head .ensures) _ (c .before .before .before .before .before .before .before .before .play-blocks .ensures .0) _ (c .before .before .before .before .before .before .before .before .play-blocks .ensures .1),
+  log-is (now (c .before .before .before .before .before .before .before .before .before .before .before .before .before .before .before .before .before .before .args .file)) (c .before .before .before .before .before .before .before .before .before .before .before .before .before .before .before .before .before .before .args .n) (c .before .before .before .before .before .before .before .before .before .before .before .before .before .before .before .before .before .before .args .s) (c .before .before .before .before .before .before .before .before .before .before .before .before .before .before .before .before .before .before .args .v) (c .before .before .before .before .before .before .before .before .before .before .before .before .before .before .before .before .before .before .args .entries) (c .before .before .before .before .before .before .before .before .before .before .before .before .before .before .before .before .before .before .pre .0) _ (c .before .before .before .before .before .before .before .before .before .before .before .before .before .before .before .start .ensures) _ (c .before .before .before .before .before .before .before .before .before .before .before .before .before .before .before .before .before .before .pre .1) _ (c .before .before .before .before .before .before .before .before .before .before .before .before .lay-head .ensures) _ (c .before .before .before .before .before .before .before .before .play-blocks .ensures .0) _ (c .before .before .before .before .before .before .before .before .play-blocks .ensures .1) _ (c .before .before .lay-head2 .ensures),
+)
 
 pub run-entries-spec : {M : Type 1} → statement M
 run-entries-spec =

@@ -1,12 +1,9 @@
 -- The value's eight bytes are read as two numbers of four.
 -- Assumes nothing.
 use borrow.Author.Needs.{needs}
-use Prim.Native.Nat.{ℕ, _+_, _*_}
-use mathlib.Core.Path.{_≡_}
-use native.Mathlib.Omega.{arith}
 use denote.Ref.{now}
-use Rattle.log.specs.Bytes.{numberAt}
 use Rattle.log.specs.Log.{noteIn}
+use Rattle.log.proofs.Back.{eight-of-fours}
 use Rattle.log.proofs.read.load_record.Statement.{statement}
 use Rattle.log.proofs.read.load_record.Tie as tie
 
@@ -44,9 +41,7 @@ returns : tie.Need-returns
 unfolding noteIn
 returns c =
     let part = now (c .before .before .before .before .before .before .before .args .part) in
-    let e : c .before .read-four .result + 4294967296 * c .read-four2 .result ≡ numberAt part 4 8 =
-        omega (arith, c .before .read-four .ensures, c .read-four2 .ensures) in
-    rw e
+    rw (c .before .read-four .ensures, c .read-four2 .ensures, eight-of-fours part 4)
 
 pub load-record-spec : {M : Type 1} → statement M
 load-record-spec =

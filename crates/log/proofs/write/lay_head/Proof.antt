@@ -2,6 +2,9 @@
 -- Assumes nothing.
 use borrow.Author.Needs.{needs}
 use denote.Ref.{now}
+use Prim.Native.Nat.{_<_}
+use native.Mathlib.Omega.{arith}
+use lib.ListN.{length}
 use mathlib.Core.Path.{sym}
 use Rattle.log.specs.Log.{headOf}
 use Rattle.log.proofs.Laws.{laid-short}
@@ -21,7 +24,8 @@ returns-2 : tie.Need-returns-2
 unfolding headOf
 returns-2 c =
     let a = c .before .before .args in
-    sym (laid-short (headOf (a .entries) (a .changes) (a .n)) (now (a .log)) (c .if1 .left))
+    let short : length (now (a .log)) < 12 = omega (arith, c .if1 .left) in
+    sym (laid-short (headOf (a .entries) (a .changes) (a .n)) (now (a .log)) short)
 
 pub lay-head-spec : {M : Type 1} → statement M
 lay-head-spec = tie.close (tie.spec store-head-requires same-length returns returns-2)

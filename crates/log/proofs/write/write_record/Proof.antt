@@ -2,6 +2,9 @@
 -- Assumes nothing.
 use borrow.Author.Needs.{needs}
 use denote.Ref.{now}
+use Prim.Native.Nat.{_<_}
+use native.Mathlib.Omega.{arith}
+use lib.ListN.{length}
 use mathlib.Core.Path.{sym}
 use Rattle.log.specs.Log.{recordOf}
 use Rattle.log.proofs.Laws.{laid-short}
@@ -21,7 +24,8 @@ returns-2 : tie.Need-returns-2
 unfolding recordOf
 returns-2 c =
     let a = c .before .before .args in
-    sym (laid-short (recordOf (a .note)) (now (a .rest)) (c .if1 .left))
+    let short : length (now (a .rest)) < 12 = omega (arith, c .if1 .left) in
+    sym (laid-short (recordOf (a .note)) (now (a .rest)) short)
 
 pub write-record-spec : {M : Type 1} → statement M
 write-record-spec = tie.close (tie.spec store-record-requires same-length returns returns-2)

@@ -14,7 +14,7 @@ is-sound-requires c κs = search needs
 enter-requires : tie.Need-enter-requires
 enter-requires c κs =
     let a = c .before .before .before .args in
-    within-sixteen (a .st) (a .p) (sym (c .before .before .is-sound .ensures) ∙ c .before .if1 .taken) (c .if2 .taken)
+    within-sixteen (a .st) (a .p) (a .kind) (sym (c .before .before .is-sound .ensures) ∙ c .before .if1 .taken) (c .if2 .taken)
 
 returns : tie.Need-returns
 unfolding called

@@ -1,58 +1,59 @@
--- The four kinds, each by its own function.
+-- What the entry leaves of the parts, put back, is the state after it: `entered-parts`.
 -- Assumes nothing.
 use borrow.Author.Needs.{needs}
+use mathlib.Core.Path.{refl, sym}
+use Rattle.machine.proofs.EntryByParts.{entered-parts}
 use Rattle.machine.proofs.entry.enter.Statement.{statement}
 use Rattle.machine.proofs.entry.enter.Tie as tie
 
-enum-told : tie.Need-enum-told
-enum-told c = search needs
+mul-own : tie.Need-mul-own
+mul-own c = search needs
 
-take-request-requires : tie.Need-take-request-requires
-take-request-requires c κs = search needs
+element-copy-out-own : tie.Need-element-copy-out-own
+element-copy-out-own c = search needs
 
-enum-known-kind : tie.Need-enum-known-kind
-enum-known-kind c = search needs
+row-given-requires : tie.Need-row-given-requires
+row-given-requires c κs = search needs
 
-take-request-requires-2 : tie.Need-take-request-requires-2
-take-request-requires-2 c κs = search needs
+mul-row : tie.Need-mul-row
+mul-row c = search needs
 
-enum-told-2 : tie.Need-enum-told-2
-enum-told-2 c = search needs
+element-copy-out-row : tie.Need-element-copy-out-row
+element-copy-out-row c = search needs
 
-take-request-requires-3 : tie.Need-take-request-requires-3
-take-request-requires-3 c κs = search needs
+kind-parts-requires : tie.Need-kind-parts-requires
+kind-parts-requires c κs = search needs
 
-enum-told-3 : tie.Need-enum-told-3
-enum-told-3 c = search needs
+mul-written : tie.Need-mul-written
+mul-written c = search needs
 
-take-step-requires : tie.Need-take-step-requires
-take-step-requires c κs = search needs
+element-set-from-written : tie.Need-element-set-from-written
+element-set-from-written c = search needs
+
+mul-left : tie.Need-mul-left
+mul-left c = search needs
+
+element-set-from-left : tie.Need-element-set-from-left
+element-set-from-left c = search needs
 
 returns : tie.Need-returns
-returns c = rw (c .before .enum-told .given .1) (c .take-request .ensures)
-
-returns-2 : tie.Need-returns-2
-returns-2 c = rw (c .before .before .kind .given .1) (c .take-request2 .ensures)
-
-returns-3 : tie.Need-returns-3
-returns-3 c = rw (c .before .enum-told2 .given .1) (c .take-request3 .ensures)
-
-returns-4 : tie.Need-returns-4
-returns-4 c = rw (c .before .enum-told3 .given .1) (c .take-step .ensures)
+returns c =
+    let a = c .before .before .before .before .before .before .before .before .before .args in
+    rw (c .before .before .before .kind-parts .ensures, c .before .before .before .before .before .row-given .ensures)
+    (sym (entered-parts (a .t1) (a .p) (a .kind) _ refl))
 
 pub enter-spec : {M : Type 1} → statement M
 enter-spec =
     tie.close
     (tie.spec
-    enum-told
-    take-request-requires
-    enum-known-kind
-    take-request-requires-2
-    enum-told-2
-    take-request-requires-3
-    enum-told-3
-    take-step-requires
-    returns
-    returns-2
-    returns-3
-    returns-4)
+    mul-own
+    element-copy-out-own
+    row-given-requires
+    mul-row
+    element-copy-out-row
+    kind-parts-requires
+    mul-written
+    element-set-from-written
+    mul-left
+    element-set-from-left
+    returns)

@@ -1,0 +1,75 @@
+-- The number and the block that a run returns are small: together they fit the C number.
+use Prim.Native.Nat.{ℕ, zero, suc, _+_, _-_, _*_, _/_, _≤_, _<_}
+use mathlib.Core.Path.{_≡_, refl}
+use mathlib.Core.Bool.{Bool, true, false, cond, not}
+use mathlib.Core.List.{List}
+use native.Mathlib.Omega.{arith}
+use lib.Dec.{leb, eqb}
+use lib.ListN.{length}
+use Rattle.schedule.specs.Check.{checkFine, placeFine, blockNumber}
+use Rattle.schedule.specs.Block0.{headFine, headNumber}
+use Rattle.schedule.specs.Later.{laterFine, laterNumber}
+use Rattle.schedule.specs.File.{lengthFine, blockAt, blocksAfter, found, inTurn, said, reading}
+use Rattle.schedule.specs.declared.Reading.{Reading}
+use Rattle.schedule.specs.declared.Reading.the-variants.{Refused, Accepted}
+use Rattle.schedule.proofs.Accepted.{length-blocks}
+use Rattle.log.specs.Log.{logLength}
+use Rattle.bench.specs.Bench.{ranBy, ranOf, lastState, turned}
+use Rattle.bench.specs.declared.Ran.{Ran}
+
+abbrev Low : Reading → Type 0
+Low (Refused n k) = (n ≤ 5) × (k ≤ 127)
+Low (Accepted n s v c) = Unit {0}
+
+number-low : (a b c : Bool) (n : ℕ) → n ≤ 5 → cond (not a) 2 (cond (not b) 3 (cond (not c) n 0)) ≤ 5
+number-low true true true n l = omega arith
+number-low true true false n l = l
+number-low true false c n l = omega arith
+number-low false b c n l = omega arith
+
+found-low : (n k : ℕ) (rest : Reading) → n ≤ 5 → k ≤ 127 → Low rest → Low (found n k rest)
+found-low n k rest l h low = go (eqb n 0)
+  where
+    go : (b : Bool) → Low (cond b rest (Refused n k))
+    go true = low
+    go false = (l, h)
+
+turn-low : (f : List ℕ) (k n : ℕ) (rest : Reading) → k + n ≤ 128 → Low rest → Low (inTurn f k n rest)
+unfolding inTurn laterNumber
+turn-low f k zero rest l low = low
+turn-low f k (suc n) rest l low =
+    let b = blockAt f k in
+    found-low (laterNumber b k) k (inTurn f (k + 1) n rest) (number-low (checkFine b) (placeFine b k) (laterFine b) 5 (omega arith)) (omega arith)
+    (turn-low f (k + 1) n rest (omega arith) low)
+
+reading-low : (f : List ℕ) → Low (reading f)
+unfolding reading headNumber
+reading-low f = go (lengthFine (length f)) refl
+  where
+    b : List ℕ
+    b = blockAt f 0
+
+    go : (t : Bool) → lengthFine (length f) ≡ t
+        → Low (cond (not t) (Refused 1 0) (found (headNumber (blockAt f 0) (blocksAfter f)) 0 (inTurn f 1 (blocksAfter f) (said f))))
+    go true e =
+        found-low (headNumber b (blocksAfter f)) 0 (inTurn f 1 (blocksAfter f) (said f))
+        (number-low (checkFine b) (placeFine b 0) (headFine b (blocksAfter f)) 4 (omega arith)) (omega arith)
+        (turn-low f 1 (blocksAfter f) (said f) (omega (arith, length-blocks (length f) e .1)) tt)
+    go false e = (omega arith, omega arith)
+
+pub ran-low : (f log : List ℕ) → (ranOf f log .number ≤ 6) × (ranOf f log .block ≤ 127)
+unfolding ranOf
+ran-low f log = by (reading f) (reading-low f)
+  where
+    room : (c : ℕ) (r : Ran) → (r .number ≤ 6) × (r .block ≤ 127) → (b : Bool) → (cond b r (turned 6 0) .number ≤ 6) × (cond b r (turned 6 0) .block ≤ 127)
+    room c r h true = h
+    room c r h false = (omega arith, omega arith)
+
+    by : (r : Reading) → Low r → (ranBy f log r .number ≤ 6) × (ranBy f log r .block ≤ 127)
+    by (Refused n k) low = (omega (arith, low .0), low .1)
+    by (Accepted n s v c) low =
+        room c (record { number = 0; block = 0; state = lastState f n s v }) (omega arith, omega arith) (leb (logLength c) (length log))
+
+-- the same of a result that meets the run's promise
+pub small : (f log : List ℕ) (r : Ran) → r ≡ ranOf f log → (r .number ≤ 6) × (r .block ≤ 127)
+small f log r e = rw e (ran-low f log)

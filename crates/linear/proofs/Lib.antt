@@ -1,0 +1,17 @@
+pub mod Lift
+pub mod History
+pub mod Invariant
+pub mod Consequences
+pub mod Moved
+pub mod Kept
+pub mod Start
+pub mod Side
+pub mod Join
+pub mod Cases
+pub mod Noted
+pub mod Simulated
+pub mod Told
+pub mod Known
+pub mod Demand3
+pub mod Agree
+pub mod OfFile

@@ -1,0 +1,136 @@
+-- The replies and the calls played so far, with no machine in them: how they go on when an entry decides a call, answers one, or both.
+-- Assumes nothing.
+use Prim.Native.Nat.{ℕ, suc, _+_, _≤_, _<_}
+use mathlib.Core.Path.{_≡_, refl, sym, ap, _∙_, subst}
+use mathlib.Core.Bool.{Bool, true, false, cond}
+use mathlib.Core.Logic.{_⊎_, inl, inr, ⊎-elim}
+use mathlib.Core.List.{List, [], _∷_, _++_, List·Memᴰ, List·Memᴰ·head, List·Memᴰ·not-nil, List·Memᴰ·cases-cons, Memᴰ·append-left, Memᴰ·append-right}
+use native.Mathlib.Omega.{arith}
+use Rattle.word.specs.Word.{Op, Answer, done}
+use Rattle.word.specs.Order.{Call, Every}
+use Rattle.word.proofs.Lists.{every-map, every-both, every-snoc}
+use Rattle.linear.specs.Calls.{Reply}
+use Rattle.linear.specs.Demand3.{callOf, IsPlayed, AnsweredOrDone, RightSteps, isDone, doneCount}
+
+-- what holds of every element holds of one that is there
+pub every-mem : {B : Type 0} (P : B → Type 0) (l : List B) (b : B) → Every P l → List·Memᴰ b l → P b
+every-mem P [] b h m = absurd (List·Memᴰ·not-nil m)
+every-mem P (x ∷ l) b h m = ⊎-elim (λ e. subst P (sym e) (h .0)) (λ n. every-mem P l b (h .1) n) (List·Memᴰ·cases-cons m)
+
+last-mem : {B : Type 0} (l : List B) (b : B) → List·Memᴰ b (l ++ b ∷ [])
+last-mem l b = Memᴰ·append-right l (List·Memᴰ·head refl)
+
+-- all replies to q so far stand before place t: so it is while q's call requested at t is open
+abbrev pub Since : ℕ → ℕ → List Reply → Type 0
+Since q t replies = Every (λ r. r .process ≡ q → r .place < t) replies
+
+-- the reply r is none to c, or c was decided by then
+abbrev pub NotLater : Call ℕ → Reply → Type 0
+NotLater c r = r .asked ≡ c .asked → r .process ≡ c .process → c .decided ≤ r .place
+
+pub record Told (now : ℕ) (played : List (Call ℕ)) (replies : List Reply) : Type 0 where
+  pub spans : Every (λ r. (r .asked < r .place) × (r .place < now)) replies
+  pub decided : Every (λ c. c .decided < now) played
+  pub answered : Every (IsPlayed played) replies
+  pub rightSteps : Every (λ r. RightSteps (r .answer) (r .mark) (r .steps)) replies
+  pub late : Every (λ c. Every (NotLater c) replies) played
+  pub only : Every (AnsweredOrDone replies) played
+
+pub told-start : Told 0 [] []
+told-start = record { spans = tt; decided = tt; answered = tt; rightSteps = tt; late = tt; only = tt }
+
+-- how the facts on replies and calls go on when there is one more of the other kind
+more-played : (played : List (Call ℕ)) (replies : List Reply) (c : Call ℕ) → Every (IsPlayed played) replies → Every (IsPlayed (played ++ c ∷ [])) replies
+more-played played replies c h =
+    every-map (IsPlayed played) (IsPlayed (played ++ c ∷ [])) (λ r k. (k .0, k .1, Memᴰ·append-left (c ∷ []) (k .2))) replies h
+
+more-replies : (played : List (Call ℕ)) (replies : List Reply) (r : Reply) → Every (AnsweredOrDone replies) played → Every (AnsweredOrDone (replies ++ r ∷ [])) played
+more-replies played replies r h = every-map (AnsweredOrDone replies) (AnsweredOrDone (replies ++ r ∷ [])) (λ c k. go c k) played h
+  where
+    go : (c : Call ℕ) → AnsweredOrDone replies c → AnsweredOrDone (replies ++ r ∷ []) c
+    go c (inl e) = inl e
+    go c (inr (r′, m, e)) = inr (r′, Memᴰ·append-left (r ∷ []) m, e)
+
+module _ {now : ℕ} {played : List (Call ℕ)} {replies : List Reply} (told : Told now played replies) where
+  spans-on : Every (λ r. (r .asked < r .place) × (r .place < suc now)) replies
+  spans-on = every-map (λ r. (r .asked < r .place) × (r .place < now)) (λ r. (r .asked < r .place) × (r .place < suc now)) (λ r k. omega arith) replies (told .spans)
+
+  decided-on : Every (λ c. c .decided < suc now) played
+  decided-on = every-map (λ c. c .decided < now) (λ c. c .decided < suc now) (λ c k. omega arith) played (told .decided)
+
+  -- an entry that neither decides nor answers
+  pub told-tick : Told (suc now) played replies
+  told-tick =
+      record { spans = spans-on; decided = decided-on; answered = told .answered; rightSteps = told .rightSteps; late = told .late; only = told .only }
+
+  -- a reply now is later than all calls decided so far
+  late-reply : (r : Reply) → r .place ≡ now → Every (λ c. Every (NotLater c) (replies ++ r ∷ [])) played
+  late-reply r e =
+      every-map (λ c. Every (NotLater c) replies × (c .decided < now)) (λ c. Every (NotLater c) (replies ++ r ∷ []))
+      (λ c k. every-snoc (NotLater c) replies r (k .0) (λ f g. omega (arith, k .1, e)))
+      played (every-both (λ c. Every (NotLater c) replies) (λ c. c .decided < now) played (told .late) (told .decided))
+
+  -- No reply so far is one to p's open call: it would have its place after the request, and before it.
+  late-call : (c : Call ℕ) → Since (c .process) (c .asked) replies → Every (NotLater c) replies
+  late-call c since =
+      every-map (λ r. ((r .asked < r .place) × (r .place < now)) × (r .process ≡ c .process → r .place < c .asked)) (NotLater c)
+      (λ r k f g. absurd (omega (arith, k .0, k .1 g, f)))
+      replies (every-both _ _ replies (told .spans) since)
+
+  -- step 8 that succeeds: decided, not answered yet
+  pub told-call : (c : Call ℕ) → c .decided ≡ now → c .answer ≡ done → Since (c .process) (c .asked) replies → Told (suc now) (played ++ c ∷ []) replies
+  told-call c e d since =
+      record {
+        spans = spans-on;
+        decided = every-snoc (λ c. c .decided < suc now) played c decided-on (omega arith);
+        answered = more-played played replies c (told .answered);
+        rightSteps = told .rightSteps;
+        late = every-snoc (λ c. Every (NotLater c) replies) played c (told .late) (late-call c since);
+        only = every-snoc (AnsweredOrDone replies) played c (told .only) (inl d);
+      }
+
+  -- step 10: answered, and decided before
+  pub told-reply : (r : Reply) → r .asked < now → r .place ≡ now → RightSteps (r .answer) (r .mark) (r .steps) → IsPlayed played r → Told (suc now) played (replies ++ r ∷ [])
+  told-reply r l e right is =
+      record {
+        spans = every-snoc (λ r. (r .asked < r .place) × (r .place < suc now)) replies r spans-on (omega arith);
+        decided = decided-on;
+        answered = every-snoc (IsPlayed played) replies r (told .answered) is;
+        rightSteps = every-snoc (λ r. RightSteps (r .answer) (r .mark) (r .steps)) replies r (told .rightSteps) right;
+        late = late-reply r e;
+        only = more-replies played replies r (told .only);
+      }
+
+  -- every other answer: decided and answered now
+  pub told-both : (r : Reply) → r .asked < now → r .place ≡ now → RightSteps (r .answer) (r .mark) (r .steps) → Since (r .process) (r .asked) replies
+      → Told (suc now) (played ++ callOf r (r .place) ∷ []) (replies ++ r ∷ [])
+  told-both r l e right since =
+      record {
+        spans = every-snoc (λ r. (r .asked < r .place) × (r .place < suc now)) replies r spans-on (omega arith);
+        decided = every-snoc (λ c. c .decided < suc now) played c decided-on (omega arith);
+        answered =
+            every-snoc (IsPlayed (played ++ c ∷ [])) replies r (more-played played replies c (told .answered))
+            (r .place, omega arith, last-mem played c);
+        rightSteps = every-snoc (λ r. RightSteps (r .answer) (r .mark) (r .steps)) replies r (told .rightSteps) right;
+        late =
+            every-snoc (λ c. Every (NotLater c) (replies ++ r ∷ [])) played c (late-reply r e)
+            (every-snoc (NotLater c) replies r (late-call c since) (λ f g. omega arith));
+        only =
+            every-snoc (AnsweredOrDone (replies ++ r ∷ [])) played c (more-replies played replies r (told .only))
+            (inr (r, last-mem replies r, refl));
+      }
+    where
+      c : Call ℕ
+      c = callOf r (r .place)
+
+-- one more call, and whether it is a store that was done
+pub done-snoc : (l : List (Call ℕ)) (c : Call ℕ) → doneCount (l ++ c ∷ []) ≡ cond (isDone (c .answer)) (suc (doneCount l)) (doneCount l)
+done-snoc [] c = refl
+done-snoc (x ∷ l) c = go (isDone (x .answer)) (isDone (c .answer)) (done-snoc l c)
+  where
+    go : (a b : Bool) → doneCount (l ++ c ∷ []) ≡ cond b (suc (doneCount l)) (doneCount l)
+        → cond a (suc (doneCount (l ++ c ∷ []))) (doneCount (l ++ c ∷ [])) ≡ cond b (suc (cond a (suc (doneCount l)) (doneCount l))) (cond a (suc (doneCount l)) (doneCount l))
+    go true true e = ap suc e
+    go true false e = ap suc e
+    go false true e = e
+    go false false e = e

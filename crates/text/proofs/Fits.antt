@@ -1,0 +1,37 @@
+-- 128 bytes have room for every line, whatever its numbers are.
+-- Assumes nothing.
+use Prim.Native.Nat.{ℕ, _≤_}
+use mathlib.Core.Path.{_≡_, refl}
+use mathlib.Core.List.{List, [], _∷_, _++_}
+use native.Mathlib.Omega.{arith}
+use lib.ListN.{length, length-append}
+use Rattle.log.specs.declared.Note.{Note}
+use Rattle.text.specs.Decimal.{decimalOf}
+use Rattle.text.specs.Lines.{bytesIn, field, space, newline, headLine, lineOf, refusedLine}
+use Rattle.text.proofs.Digits.{decimal-length}
+
+pub number-fits : (n : ℕ) → length (decimalOf n) ≤ 128
+number-fits n = omega (arith, decimal-length n)
+
+pub head-line-fits : (entries changes n : ℕ) → length (headLine entries changes n) ≤ 128
+unfolding headLine
+head-line-fits entries changes n =
+    simp length-append (omega (arith, decimal-length entries, decimal-length changes, decimal-length n))
+
+pub line-fits : (place : ℕ) (note : Note) → length (lineOf place note) ≤ 128
+unfolding lineOf
+line-fits place note =
+    simp length-append
+    (omega (
+      arith,
+      decimal-length place,
+      decimal-length (note .process),
+      decimal-length (note .outcome),
+      decimal-length (note .steps),
+      decimal-length (note .mark),
+      decimal-length (note .value),
+    ))
+
+pub refused-line-fits : (number block : ℕ) → length (refusedLine number block) ≤ 128
+unfolding refusedLine
+refused-line-fits number block = simp length-append (omega (arith, decimal-length number, decimal-length block))

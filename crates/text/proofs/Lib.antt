@@ -1,0 +1,5 @@
+pub mod Pieces
+pub mod Digits
+pub mod Fits
+pub mod Whole
+pub mod Worked

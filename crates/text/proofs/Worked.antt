@@ -1,0 +1,11 @@
+-- The worked run's output, by evaluation of the definitions.
+-- Assumes nothing.
+use mathlib.Core.Path.{refl}
+use Rattle.log.specs.Log.{headOf, recordOf, recordsOf, logOf, headIn, noteIn, headFound, noteFound}
+use Rattle.text.specs.Decimal.{digitsOf, decimalOf}
+use Rattle.text.specs.Lines.{headLine, lineOf, refusedLine, linesFrom, textOf}
+use Rattle.text.specs.Worked.{WorkedRun}
+
+pub worked-run : WorkedRun
+unfolding headOf recordOf recordsOf logOf headIn noteIn headFound noteFound digitsOf decimalOf headLine lineOf refusedLine linesFrom textOf
+worked-run = record { whole = refl; refused = refl }

@@ -1,0 +1,82 @@
+-- Document 01, "The player and one full run": what is printed, as bytes.
+use Prim.Native.Nat.{ℕ, zero, suc, _+_}
+use Prim.Native.Char.{code}
+use Prim.Native.String.{String}
+use Prim.Native.String as string
+use mathlib.Core.Bool.{cond}
+use mathlib.Core.List.{List, [], _∷_, _++_}
+use lib.Dec.{leb}
+use lib.ListN.{length, drop}
+use Rattle.log.specs.Log.{headFound, noteFound}
+use Rattle.log.specs.declared.Head.{Head}
+use Rattle.log.specs.declared.HeadFound.{HeadFound}
+use Rattle.log.specs.declared.HeadFound.the-variants.{Laid, NoHead}
+use Rattle.log.specs.declared.Note.{Note}
+use Rattle.log.specs.declared.NoteFound.{NoteFound}
+use Rattle.log.specs.declared.NoteFound.the-variants.{Written, NoNote}
+use Rattle.text.specs.Decimal.{decimalOf}
+
+-- plain text: a byte for each character
+abbrev pub bytesIn : String → List ℕ
+bytesIn string.[] = []
+bytesIn (string._∷_ c cs) = code c ∷ bytesIn cs
+
+-- a number, and the space or the end of the line behind it
+abbrev pub space : ℕ
+space = 32
+
+abbrev pub newline : ℕ
+newline = 10
+
+abbrev pub field : ℕ → ℕ → List ℕ
+field n end = decimalOf n ++ (end ∷ [])
+
+-- "one head line (entries, changes of X, N)", as `entries 11 changes 1 processes 2`
+unfoldable pub headLine : ℕ → ℕ → ℕ → List ℕ
+headLine entries changes n =
+    bytesIn "entries " ++ (field entries space ++ (bytesIn "changes " ++ (field changes space ++ (bytesIn "processes " ++ field n newline))))
+
+-- "one line an entry: place from 0, process, outcome, steps, mark, value, in decimal with one space between"
+unfoldable pub lineOf : ℕ → Note → List ℕ
+lineOf place note =
+    field place space
+    ++ (field (note .process) space
+    ++ (field (note .outcome) space ++ (field (note .steps) space ++ (field (note .mark) space ++ field (note .value) newline))))
+
+-- "A refused file prints one line with its number and block, as `refused 2 block 0`."
+unfoldable pub refusedLine : ℕ → ℕ → List ℕ
+refusedLine number block = bytesIn "refused " ++ (field number space ++ (bytesIn "block " ++ field block newline))
+
+-- What is left of a lent part in which a text is printed, and how many bytes were: a part of 128 bytes has room for every line,
+-- and a shorter one stays as it was.
+abbrev pub printed : List ℕ → List ℕ → List ℕ
+printed text out = cond (leb 128 (length out)) (text ++ drop (length text) out) out
+
+abbrev pub printedCount : List ℕ → List ℕ → ℕ
+printedCount text out = cond (leb 128 (length out)) (length text) 0
+
+-- the same lines from the bytes of a log; where the log is too short for what is asked, no text
+abbrev pub headText : HeadFound → List ℕ
+headText (Laid head) = headLine (head .entries) (head .changes) (head .n)
+headText NoHead = []
+
+abbrev pub lineText : ℕ → NoteFound → List ℕ
+lineText place (Written note) = lineOf place note
+lineText place NoNote = []
+
+-- the lines of the entries from a place on, as many as are asked for, and all that is printed of a log
+unfoldable pub linesFrom : List ℕ → ℕ → ℕ → List ℕ
+linesFrom log place zero = []
+linesFrom log place (suc more) = lineText place (noteFound log place) ++ linesFrom log (place + 1) more
+
+abbrev pub textBy : List ℕ → HeadFound → List ℕ
+textBy log (Laid head) = headText (Laid head) ++ linesFrom log 0 (head .entries)
+textBy log NoHead = []
+
+unfoldable pub textOf : List ℕ → List ℕ
+textOf log = textBy log (headFound log)
+
+-- the lines of notes, the first of which has this place
+unfoldable pub linesOf : ℕ → List Note → List ℕ
+linesOf place [] = []
+linesOf place (note ∷ notes) = lineOf place note ++ linesOf (place + 1) notes

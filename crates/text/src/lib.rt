@@ -1,0 +1,3 @@
+// The text that is printed of a log, written into a part that the caller lends.
+pub mod line;
+mod put;
