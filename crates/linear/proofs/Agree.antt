@@ -9,7 +9,7 @@ use Rattle.machine.specs.declared.Kind.the-variants as kind
 use Rattle.word.specs.Word.{Op, load, store, check, Answer, value, done, notDone}
 use Rattle.word.specs.Word as word
 use Rattle.word.specs.Order.{Call}
-use Rattle.linear.specs.Calls.{Reply, Calls, callsFrom, callsOf}
+use Rattle.linear.specs.Calls.{Reply, callsFrom, callsOf}
 
 -- a call of process p, by places; a reply to one
 abbrev pub call : ℕ → ℕ → ℕ → Op ℕ → Answer ℕ → Call ℕ

@@ -1,9 +1,9 @@
 -- What an entry can come to, case by case: the one place where the steps' definitions are looked at. `G kind st′ outcome changed` is
 -- whatever is to be shown of the entry's kind, the state after it, its outcome, and whether X has changed.
 -- Assumes nothing.
-use Prim.Native.Nat.{ℕ, zero, suc, _+_, _≤_, _<_}
+use Prim.Native.Nat.{ℕ, suc, _+_, _<_}
 use mathlib.Core.Path.{_≡_, refl, sym, ap, _∙_, subst, subst₂}
-use mathlib.Core.Bool.{Bool, true, false, not, cond, _&&_}
+use mathlib.Core.Bool.{Bool, true, false, not, cond}
 use native.Mathlib.Omega.{arith}
 use lib.Dec.{T, eqb, leb}
 use lib.IntN.{pos, _-ℤ_}
@@ -14,15 +14,12 @@ use Rattle.step.specs.Requests.{requestOf, idle, begun, notTaken}
 use Rattle.step.specs.Requests as requests
 use Rattle.step.specs.declared.Process.{Process}
 use Rattle.step.specs.declared.Tag.{Tag}
-use Rattle.step.specs.declared.Row.{Row}
 use Rattle.step.specs.declared.Record.{Record}
 use Rattle.step.specs.declared.Request.{Request}
-use Rattle.step.specs.declared.Requested.{Requested}
-use Rattle.step.specs.declared.Stepped.{Stepped}
 use Rattle.step.specs.declared.Place.{Place}
 use Rattle.step.specs.declared.Place.the-variants.{Idle, Load1, Load2, Load3, Load5, Store7, Store8, Store9, Store10, Check14}
 use Rattle.step.specs.declared.Outcome.{Outcome}
-use Rattle.step.specs.declared.Outcome.the-variants.{Taken, GoesOn, Current, Old, Done, NotDone, Yes, No, NoProcess, CallOpen, UsedUp, NoCall, Unsound}
+use Rattle.step.specs.declared.Outcome.the-variants.{Taken, GoesOn, Current, Old, Done, NotDone, Yes, No, NoProcess, CallOpen, UsedUp, NoCall}
 use Rattle.machine.specs.State.{rowAt, recordAt}
 use Rattle.machine.specs.Entry.{refused, called}
 use Rattle.machine.specs.Run.{turnedAway, changes}

@@ -1,14 +1,12 @@
 -- What follows from the invariants, with no step taken.
 -- Assumes nothing.
-use Prim.Native.Nat.{ℕ, zero, suc, _+_, _%_, _≤_, _<_}
+use Prim.Native.Nat.{ℕ, zero, suc, _+_, _≤_, _<_}
 use mathlib.Core.Path.{_≡_, refl, sym, ap, _∙_, subst}
 use mathlib.Core.Bool.{Bool, true, false, _&&_}
-use mathlib.Core.Logic.{_≢_}
 use mathlib.Core.List.{List}
 use native.Mathlib.Omega.{arith}
 use native.Mathlib.Decide.{ℕ-discrete, decLt}
-use lib.Dec.{T, eqb}
-use lib.ListN.{length}
+use lib.Dec.{eqb}
 use borrow.Author.Tests.{eqb-true, eq-eqb, ne-eqb}
 use Rattle.step.specs.Number.{sameTag}
 use Rattle.step.specs.declared.Tag.{Tag}
@@ -118,3 +116,20 @@ module _ {st : State} {t : ℕ} {h : List Change} {seen : ℕ → Link} (inv : I
                   absurd (ne (at-same h i t _ _ u _ (inv .sorted) a
                   (subst (λ (k : ℕ). At h t (recordAt st p .kept .process .0) k (inv .newest .0)) number
                   (subst (λ (q : ℕ). At h t q (st .x .number .0) (inv .newest .0)) process (inv .newest .1)))))
+
+  -- [09] Of p's kept tag [q, k]: q's old number is never below k - 2.
+  pub tag-low : (p : ℕ) → p < st .n → recordAt st p .kept .process .0 < st .n → recordAt st p .kept .number .0 ≤ olds st (recordAt st p .kept .process .0) + 1
+  tag-low p l lq = by-seen (seen p) (inv .each p l .kept)
+    where
+      by-seen : (sn : Link) → KeptTag h (recordAt st p .kept) sn → recordAt st p .kept .number .0 ≤ olds st (recordAt st p .kept .process .0) + 1
+      by-seen none e = omega (arith, e)
+      by-seen (at i) (u, a) = number-low (inv .each (recordAt st p .kept .process .0) lq) i (recordAt st p .kept .number .0) u a
+
+  -- At step 5 X is not the kept tag: k is below q's old number, so it is not the number before q's next.
+  pub five-behind : (p : ℕ) → p < st .n → recordAt st p .kept .process .0 < st .n → recordAt st p .place ≡ Load5 → sameTag (st .x) (recordAt st p .kept) ≡ false
+  five-behind p l lq e =
+      let (i, sn, high) = subst (Stage (olds st) h (recordAt st p .kept) (seen p)) e (inv .each p l .stage) in
+      let (u, a) = subst (KeptTag h (recordAt st p .kept)) sn (inv .each p l .kept) in
+      let q = recordAt st p .kept .process .0 in
+      let lt = not-top i q (recordAt st p .kept .number .0) u a (omega (arith, high, inv .each q lq .number, gap-bounds (recordAt st q .place))) in
+      tag-test p l ∙ ap (λ (sn : Link). linked sn t) sn ∙ ne-eqb i t (λ f. omega (arith, lt, f))

@@ -1,7 +1,7 @@
 -- Demand 3 of every run from a start: whatever N, S, V and the entries are.
 -- Assumes nothing.
-use Prim.Native.Nat.{ℕ, zero, suc, _+_, _≤_}
-use mathlib.Core.Path.{_≡_, refl, sym, subst}
+use Prim.Native.Nat.{ℕ, suc, _+_, _≤_}
+use mathlib.Core.Path.{_≡_, subst}
 use mathlib.Core.Bool.{Bool, true, false, cond}
 use mathlib.Core.HLevel.{Π-prop}
 use mathlib.Core.List.{List, [], _∷_, Perm·symm}
@@ -15,12 +15,11 @@ use Rattle.machine.specs.declared.State.{State}
 use Rattle.machine.proofs.Runs.{Ready, ready-start, ready-played}
 use Rattle.word.specs.Order.{Call, Every}
 use Rattle.word.proofs.Lists.{every-map, every-perm}
-use Rattle.word.proofs.Good.{Good, good-first}
+use Rattle.word.proofs.Good.{good-first}
 use Rattle.linear.specs.Calls.{Reply, Calls, noCalls, goOn, callsFrom, callsOf}
 use Rattle.linear.specs.Demand3.{Answered, StepsCounted, doneCount, Demand3}
-use Rattle.linear.proofs.Side.{Sim}
 use Rattle.linear.proofs.Simulated.{Simulated, sim-start, sim-entry}
-use Rattle.linear.proofs.Told.{Told, NotLater, every-mem}
+use Rattle.linear.proofs.Told.{NotLater, every-mem}
 use Rattle.linear.proofs.Known.{KnownIn, known-start, known-entry}
 
 -- What holds after the entries es with the notes ws, of which the calls c have become c′.
@@ -68,6 +67,7 @@ demand-3 n s v range es =
           (every-perm (λ c. (t : ℕ) → Answered (callsOf es ws .replies) c t → c .decided ≤ t) (λ c. Π-prop (λ t. Π-prop (λ a. le-prop)))
           (Perm·symm (end .sim .good .once)) (answered-late (callsOf es ws .replies) (callsOf es ws .played) (end .known .told .late)));
       answered = end .known .told .answered;
+      oneByOne = end .known .told .oneByOne;
       only = end .known .told .only;
       rightSteps = end .known .told .rightSteps;
       stepsCounted = end .counted;

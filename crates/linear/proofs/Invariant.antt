@@ -1,7 +1,7 @@
 -- What holds of the machine after each entry of a run, with the changes so far and, for each process, the place of the change that its
 -- latest step 1 has seen. The numbers in brackets are document 001's.
 -- Assumes nothing.
-use Prim.Native.Nat.{ℕ, zero, suc, _+_, _%_, _≤_, _<_}
+use Prim.Native.Nat.{ℕ, suc, _+_, _%_, _≤_, _<_}
 use mathlib.Core.Path.{_≡_}
 use mathlib.Core.List.{List}
 use lib.ListN.{length, getD}

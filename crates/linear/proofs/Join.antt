@@ -1,37 +1,36 @@
 -- The joining: each entry carries the simulation relation on. What an entry decides goes into the order by one of the three ways of
 -- word/proofs/Good.antt; what it does to the machine is in proofs/Kept.antt.
 -- Assumes nothing.
-use Prim.Native.Nat.{ℕ, zero, suc, _+_, _%_, _≤_, _<_}
+use Prim.Native.Nat.{ℕ, suc, _≤_, _<_}
 use mathlib.Core.Path.{_≡_, refl, sym, ap, _∙_, subst, subst₂}
-use mathlib.Core.Bool.{Bool, true, false, cond}
-use mathlib.Core.Option.{none, some}
-use mathlib.Core.Logic.{_≢_, _⊎_, inl, inr}
+use mathlib.Core.Bool.{Bool, true, cond}
+use mathlib.Core.Option.{none}
+use mathlib.Core.Logic.{_≢_, inl, inr}
 use mathlib.Core.List.{List, [], _∷_, _++_}
 use native.Mathlib.Omega.{arith}
-use native.Mathlib.Decide.{decLt}
-use Rattle.step.specs.Number.{isNear, sameTag}
-use Rattle.step.specs.Steps.{at, withSlot}
+use Rattle.step.specs.Number.{sameTag}
+use Rattle.step.specs.Steps.{at}
 use Rattle.step.specs.declared.Row.{Row}
 use Rattle.step.specs.declared.Record.{Record}
 use Rattle.step.specs.declared.Place.{Place}
-use Rattle.step.specs.declared.Place.the-variants.{Idle, Load1, Load2, Load3, Load5, Store7, Store8, Store9, Store10, Check14}
+use Rattle.step.specs.declared.Place.the-variants.{Idle, Store9}
 use Rattle.machine.specs.State.{rowAt, recordAt}
 use Rattle.machine.specs.declared.State.{State}
-use Rattle.word.specs.Word.{Link, Op, load, store, check, Answer, value, done, notDone, saysYes, saysNo, put, linked, answerOf, first}
+use Rattle.word.specs.Word.{Link, Op, load, store, Answer, value, done, notDone, put, linked, answerOf, first}
 use Rattle.word.specs.Word as word
 use Rattle.word.specs.Order.{Call}
 use Rattle.word.proofs.Put.{split, put-same, put-other}
-use Rattle.word.proofs.Play.{after, after-snoc}
+use Rattle.word.proofs.Play.{after}
 use Rattle.word.proofs.Changes.{writes, wrote, total, valueAfter, total-quiet, total-snoc, value-snoc, value-new, writes-own, writes-nothing}
-use Rattle.word.proofs.Relink.{NoLoad, link-kept, link-own}
+use Rattle.word.proofs.Relink.{NoLoad, link-own}
 use Rattle.word.proofs.Insert.{loadCall, ins, total-ins, value-ins}
-use Rattle.word.proofs.Good.{Good, Own, Late, MayLoad, good-tick, good-append, good-load, good-load-after, good-count, own-new, late-new, late-later}
+use Rattle.word.proofs.Good.{Good, MayLoad, good-tick, good-append, good-load, good-load-after, good-count, own-new, late-later}
 use Rattle.linear.proofs.History.{Change, At}
-use Rattle.linear.proofs.Invariant.{slotOf, olds, Inv}
-use Rattle.linear.proofs.Consequences.{place-low, tag-test, old-place}
+use Rattle.linear.proofs.Invariant.{slotOf, Inv}
+use Rattle.linear.proofs.Consequences.{place-low, tag-test}
 use Rattle.linear.proofs.Moved.{Moved}
-use Rattle.linear.proofs.Kept.{own, row, newChange, kept-calm}
-use Rattle.linear.proofs.Side.{Behind, LinkOk, LinkAt, Undecided, LateFor, OpenAt, endLink, Side, SideAt, Sim, Way, way-same, way-quiet, way-done, way-load, link-snoc, side-on, link-behind, linked-same}
+use Rattle.linear.proofs.Kept.{own, row, newChange}
+use Rattle.linear.proofs.Side.{LinkOk, Undecided, LateFor, endLink, Side, SideAt, Sim, Way, way-same, way-quiet, way-done, way-load, link-snoc, side-on, link-behind, linked-same}
 
 -- An entry that changes no state: a refused one.
 pub sim-tick : {v : ℕ} {st : State} {now : ℕ} {asked : ℕ → ℕ} {op : ℕ → Op ℕ} {played : List (Call ℕ)}

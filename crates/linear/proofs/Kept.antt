@@ -2,16 +2,16 @@
 -- and the old numbers, which only rise. Then the step's own process; the steps that move no number and no register of its row ("calm":
 -- requests, 1, 2, 3, 5, 8 not done, 14) have one lemma; 7, 8 done, 9 and 10 are the real cases.
 -- Assumes nothing.
-use Prim.Native.Nat.{ℕ, zero, suc, _+_, _%_, _≤_, _<_}
+use Prim.Native.Nat.{ℕ, suc, _+_, _%_, _≤_, _<_}
 use mathlib.Core.Path.{_≡_, refl, sym, ap, _∙_, subst, subst₂}
-use mathlib.Core.Bool.{Bool, true, false}
-use mathlib.Core.Logic.{_≢_, _⊎_, inl, inr}
+use mathlib.Core.Bool.{true, false}
+use mathlib.Core.Logic.{_≢_, inl, inr}
 use mathlib.Core.List.{List, _∷_}
 use native.Mathlib.Omega.{arith}
 use lib.IntN.{pos, _-ℤ_}
-use lib.ListN.{length, getD, set}
-use lib.Seq.{getD-set-same, getD-set-other}
-use Rattle.step.specs.Number.{isNear, withOld}
+use lib.ListN.{getD}
+use lib.Seq.{getD-set-other}
+use Rattle.step.specs.Number.{isNear, isOld, withOld}
 use Rattle.step.specs.Steps.{at, withSlot, withOldValue}
 use Rattle.step.specs.declared.Tag.{Tag}
 use Rattle.step.specs.declared.Row.{Row}
@@ -20,14 +20,11 @@ use Rattle.step.specs.declared.Place.{Place}
 use Rattle.step.specs.declared.Place.the-variants.{Idle, Load1, Load2, Load3, Load5, Store7, Store8, Store9, Store10, Check14}
 use Rattle.machine.specs.State.{rowAt, recordAt}
 use Rattle.machine.specs.declared.State.{State}
-use Rattle.machine.proofs.Soundness.{Sound}
-use Rattle.machine.proofs.Frame.{Frame, Full}
-use Rattle.machine.proofs.Runs.{Ready}
 use Rattle.word.specs.Word.{Link, none, put}
 use Rattle.word.specs.Word as word
 use Rattle.word.proofs.Put.{split, put-same, put-other}
 use Rattle.linear.proofs.Lift.{lift, guard-high, lift-two-less}
-use Rattle.linear.proofs.History.{Change, At, Sorted, Held}
+use Rattle.linear.proofs.History.{Change, At, Held}
 use Rattle.linear.proofs.Invariant.{gap, ext, slotOf, oldUp, olds, KeptTag, Stage, One, OneAt, Inv}
 use Rattle.linear.proofs.Consequences.{number-low, current}
 use Rattle.linear.proofs.Moved.{Moved}
@@ -174,7 +171,7 @@ module _ (st : State) (p : ℕ) where
         )
 
     -- Step 3 that goes on: the old number is not below k - 2, and is neither that nor k - 1.
-    pub kept-3 : {st′ : State} → (v s : ℕ) (lq : own .kept .process .0 < st .n) → Rattle.step.specs.Number.isOld (rowAt st (own .kept .process .0) .«old_number») s ≡ true
+    pub kept-3 : {st′ : State} → (v s : ℕ) (lq : own .kept .process .0 < st .n) → isOld (rowAt st (own .kept .process .0) .«old_number») s ≡ true
         → own .place ≡ Load3 v → isNear (rowAt st (own .kept .process .0) .«old_number») (own .kept .number .0) ≡ false
         → Moved p st st′ row (at own Load5) → st′ .x ≡ st .x → Inv st′ t h (put p (seen p) seen)
     kept-3 v s lq old e far m x =

@@ -1,10 +1,10 @@
 -- Steps and replies, a second induction over the same run, with no order and no changes in it: by the place where a process stands, how
 -- many own steps its call has taken, and from step 8 to step 10 of a store the call that is played for it.
 -- Assumes nothing.
-use Prim.Native.Nat.{ℕ, zero, suc, _+_, _≤_, _<_}
+use Prim.Native.Nat.{ℕ, suc, _<_}
 use mathlib.Core.Path.{_≡_, refl, sym, ap, _∙_, subst, subst₂}
 use mathlib.Core.Bool.{Bool, true, false, cond}
-use mathlib.Core.Logic.{_≢_, _⊎_, inl, inr}
+use mathlib.Core.Logic.{_≢_, inl, inr}
 use mathlib.Core.List.{List, [], _∷_, _++_, List·Memᴰ, List·Memᴰ·head, Memᴰ·append-left, Memᴰ·append-right}
 use native.Mathlib.Omega.{arith}
 use Rattle.step.specs.Steps.{ownSteps}
@@ -15,25 +15,25 @@ use Rattle.step.specs.declared.Record.{Record}
 use Rattle.step.specs.declared.Place.{Place}
 use Rattle.step.specs.declared.Place.the-variants.{Idle, Load1, Load2, Load3, Load5, Store7, Store8, Store9, Store10, Check14}
 use Rattle.step.specs.declared.Outcome.{Outcome}
-use Rattle.machine.specs.State.{inRange, rowAt, recordAt}
+use Rattle.machine.specs.State.{inRange, recordAt}
 use Rattle.machine.specs.Opening.{firstState}
 use Rattle.machine.specs.Entry.{called}
 use Rattle.machine.specs.Run.{turnedAway, changes, stepsOf}
 use Rattle.machine.specs.declared.State.{State}
 use Rattle.machine.specs.declared.Kind.{Kind}
-use Rattle.machine.specs.declared.Kind.the-variants as kind
 use Rattle.machine.proofs.Soundness.{range-of}
 use Rattle.machine.proofs.Runs.{Ready}
 use Rattle.word.specs.Word.{Op, Answer, value, done, notDone, saysYes, saysNo, put}
-use Rattle.word.specs.Order.{Call, Every}
+use Rattle.word.specs.Order.{Call}
 use Rattle.word.proofs.Put.{split, put-same, put-other}
 use Rattle.word.proofs.Lists.{every-map, every-snoc}
+use Rattle.word.proofs.Good.{Own, own-snoc}
 use Rattle.linear.specs.Calls.{Reply, Calls, noCalls, countedSteps}
 use Rattle.linear.specs.Demand3.{callOf, RightSteps, doneCount}
 use Rattle.linear.proofs.Start.{idle-start}
 use Rattle.linear.proofs.Moved.{Moved}
 use Rattle.linear.proofs.Cases.{Cases, by-cases}
-use Rattle.linear.proofs.Noted.{entryOf, noteWith, goneOn, by-away}
+use Rattle.linear.proofs.Noted.{entryOf, noteWith, goneOn, away-steps, by-away}
 use Rattle.linear.proofs.Told.{Since, Told, told-start, told-tick, told-call, told-reply, told-both, done-snoc}
 
 -- q's call, requested at t, has taken n own steps, and its next will be its `rank`th
@@ -51,15 +51,15 @@ PastEight q t op now played = (d : ℕ) × (d < now) × List·Memᴰ (doneCall q
 
 abbrev pub KnownAt : ℕ → ℕ → ℕ → Op ℕ → ℕ → List (Call ℕ) → List Reply → Place → Type 0
 KnownAt q t n op now played replies Idle = Unit {0}
-KnownAt q t n op now played replies Load1 = Open q t n 1 now replies
-KnownAt q t n op now played replies Load2 = Open q t n 2 now replies
-KnownAt q t n op now played replies (Load3 v) = Open q t n 3 now replies
-KnownAt q t n op now played replies Load5 = Open q t n 4 now replies
-KnownAt q t n op now played replies (Store7 v) = Open q t n 1 now replies
-KnownAt q t n op now played replies Store8 = Open q t n 2 now replies
+KnownAt q t n op now played replies Load1 = Open q t n 1 now replies × Own q t played
+KnownAt q t n op now played replies Load2 = Open q t n 2 now replies × Own q t played
+KnownAt q t n op now played replies (Load3 v) = Open q t n 3 now replies × Own q t played
+KnownAt q t n op now played replies Load5 = Open q t n 4 now replies × Own q t played
+KnownAt q t n op now played replies (Store7 v) = Open q t n 1 now replies × Own q t played
+KnownAt q t n op now played replies Store8 = Open q t n 2 now replies × Own q t played
 KnownAt q t n op now played replies Store9 = Open q t n 3 now replies × PastEight q t op now played
 KnownAt q t n op now played replies Store10 = Open q t n 4 now replies × PastEight q t op now played
-KnownAt q t n op now played replies Check14 = Open q t n 1 now replies
+KnownAt q t n op now played replies Check14 = Open q t n 1 now replies × Own q t played
 
 pub record Known (st : State) (now : ℕ) (asked : ℕ → ℕ) (op : ℕ → Op ℕ) (steps : ℕ → ℕ) (played : List (Call ℕ)) (replies : List Reply) : Type 0 where
   pub told : Told now played replies
@@ -77,24 +77,27 @@ known-start n s v e =
 
 -- A process that takes no step: the calls played only grow, and new replies are not its own.
 module _ (q t n : ℕ) (op : Op ℕ) (now : ℕ) (played played′ : List (Call ℕ)) (replies replies′ : List Reply)
-    (grow : (c : Call ℕ) → List·Memᴰ c played → List·Memᴰ c played′) (since : Since q t replies → Since q t replies′) where
+    (grow : (c : Call ℕ) → List·Memᴰ c played → List·Memᴰ c played′) (since : Since q t replies → Since q t replies′) (own : Own q t played → Own q t played′) where
   open-on : {rank : ℕ} → Open q t n rank now replies → Open q t n rank (suc now) replies′
   open-on o = record { counted = o .counted; before = omega (arith, o .before); since = since (o .since) }
+
+  fresh-on : {rank : ℕ} → Open q t n rank now replies × Own q t played → Open q t n rank (suc now) replies′ × Own q t played′
+  fresh-on k = (open-on (k .0), own (k .1))
 
   past-on : PastEight q t op now played → PastEight q t op (suc now) played′
   past-on (d, l, m) = (d, omega arith, grow (doneCall q t op d) m)
 
   at-on : (place : Place) → KnownAt q t n op now played replies place → KnownAt q t n op (suc now) played′ replies′ place
   at-on Idle k = tt
-  at-on Load1 k = open-on k
-  at-on Load2 k = open-on k
-  at-on (Load3 v) k = open-on k
-  at-on Load5 k = open-on k
-  at-on (Store7 v) k = open-on k
-  at-on Store8 k = open-on k
+  at-on Load1 k = fresh-on k
+  at-on Load2 k = fresh-on k
+  at-on (Load3 v) k = fresh-on k
+  at-on Load5 k = fresh-on k
+  at-on (Store7 v) k = fresh-on k
+  at-on Store8 k = fresh-on k
   at-on Store9 k = (open-on (k .0), past-on (k .1))
   at-on Store10 k = (open-on (k .0), past-on (k .1))
-  at-on Check14 k = open-on k
+  at-on Check14 k = fresh-on k
 
 -- one own step more
 next-step : {q t n rank now : ℕ} {replies : List Reply} (steps : ℕ → ℕ) → Open q t n rank now replies → Open q t (put q (suc n) steps q) (suc rank) (suc now) replies
@@ -106,7 +109,7 @@ module _ {st : State} {now : ℕ} {asked : ℕ → ℕ} {op : ℕ → Op ℕ} {s
   known-tick =
       record {
         told = told-tick (known .told);
-        each = λ q l. at-on q (asked q) (steps q) (op q) now played played replies replies (λ c m. m) (λ h. h) (recordAt st q .place) (known .each q l);
+        each = λ q l. at-on q (asked q) (steps q) (op q) now played played replies replies (λ c m. m) (λ h. h) (λ h. h) (recordAt st q .place) (known .each q l);
       }
 
   module _ (p : ℕ) (l : p < st .n) where
@@ -116,10 +119,10 @@ module _ {st : State} {now : ℕ} {asked : ℕ → ℕ} {op : ℕ → Op ℕ} {s
     known-on : {st′ : State} {r′ : Row} {o′ : Record} (asked′ : ℕ → ℕ) (op′ : ℕ → Op ℕ) (steps′ : ℕ → ℕ) (played′ : List (Call ℕ)) (replies′ : List Reply)
         → ((q : ℕ) → q ≢ p → asked′ q ≡ asked q) → ((q : ℕ) → q ≢ p → op′ q ≡ op q) → ((q : ℕ) → q ≢ p → steps′ q ≡ steps q)
         → ((c : Call ℕ) → List·Memᴰ c played → List·Memᴰ c played′) → ((q t : ℕ) → q ≢ p → Since q t replies → Since q t replies′)
-        → Moved p st st′ r′ o′ → Told (suc now) played′ replies′
+        → ((q t : ℕ) → q ≢ p → Own q t played → Own q t played′) → Moved p st st′ r′ o′ → Told (suc now) played′ replies′
         → KnownAt p (asked′ p) (steps′ p) (op′ p) (suc now) played′ replies′ (o′ .place)
         → Known st′ (suc now) asked′ op′ steps′ played′ replies′
-    known-on {st′} {r′} {o′} asked′ op′ steps′ played′ replies′ same-asked same-op same-steps grow since m told mine =
+    known-on {st′} {r′} {o′} asked′ op′ steps′ played′ replies′ same-asked same-op same-steps grow since fresh m told mine =
         record {
           told = told;
           each =
@@ -128,24 +131,26 @@ module _ {st : State} {now : ℕ} {asked : ℕ → ℕ} {op : ℕ → Op ℕ} {s
               (λ q ne l′. subst (λ (o : Record). KnownAt q (asked′ q) (steps′ q) (op′ q) (suc now) played′ replies′ (o .place)) (sym (m .frame .records q ne))
               (subst (λ (o : Op ℕ). KnownAt q (asked′ q) (steps′ q) o (suc now) played′ replies′ (recordAt st q .place)) (sym (same-op q ne))
               (subst₂ (λ (t n : ℕ). KnownAt q t n (op q) (suc now) played′ replies′ (recordAt st q .place)) (sym (same-asked q ne)) (sym (same-steps q ne))
-              (at-on q (asked q) (steps q) (op q) now played played′ replies replies′ grow (since q (asked q) ne) (recordAt st q .place)
+              (at-on q (asked q) (steps q) (op q) now played played′ replies replies′ grow (since q (asked q) ne) (fresh q (asked q) ne) (recordAt st q .place)
               (known .each q (omega (arith, l′, m .frame .n)))))));
         }
 
     -- a request
     known-request : {st′ : State} {r′ : Row} {o′ : Record} (o : Op ℕ) → Moved p st st′ r′ o′
-        → (Open p now 0 1 (suc now) replies → KnownAt p now 0 (put p o op p) (suc now) played replies (o′ .place))
+        → (Open p now 0 1 (suc now) replies × Own p now played → KnownAt p now 0 (put p o op p) (suc now) played replies (o′ .place))
         → Known st′ (suc now) (put p now asked) (put p o op) (put p 0 steps) played replies
     known-request {o′ = o′} o m mine =
         known-on (put p now asked) (put p o op) (put p 0 steps) played replies (put-other p now asked) (put-other p o op) (put-other p 0 steps)
-        (λ c k. k) (λ q t ne h. h) m (told-tick (known .told))
+        (λ c k. k) (λ q t ne h. h) (λ q t ne h. h) m (told-tick (known .told))
         (subst₂ (λ (t n : ℕ). KnownAt p t n (put p o op p) (suc now) played replies (o′ .place)) (sym (put-same p now asked)) (sym (put-same p 0 steps))
-        (mine
-        (record {
-          counted = refl;
-          before = omega arith;
-          since = every-map (λ r. (r .asked < r .place) × (r .place < now)) (λ r. r .process ≡ p → r .place < now) (λ r k e. k .1) replies (known .told .spans);
-        })))
+        (mine (
+          (record {
+            counted = refl;
+            before = omega arith;
+            since = every-map (λ r. (r .asked < r .place) × (r .place < now)) (λ r. r .process ≡ p → r .place < now) (λ r k e. k .1) replies (known .told .spans);
+          }),
+          every-map (λ c. c .decided < now) (λ c. c .process ≡ p → c .decided < now) (λ c k e. k) played (known .told .decided),
+        )))
 
     -- a step that neither decides nor answers
     known-quiet : {st′ : State} {r′ : Row} {o′ : Record} → Moved p st st′ r′ o′
@@ -153,17 +158,17 @@ module _ {st : State} {now : ℕ} {asked : ℕ → ℕ} {op : ℕ → Op ℕ} {s
         → Known st′ (suc now) asked op (put p (suc (steps p)) steps) played replies
     known-quiet m mine =
         known-on asked op (put p (suc (steps p)) steps) played replies (λ q ne. refl) (λ q ne. refl) (put-other p (suc (steps p)) steps)
-        (λ c k. k) (λ q t ne h. h) m (told-tick (known .told)) mine
+        (λ c k. k) (λ q t ne h. h) (λ q t ne h. h) m (told-tick (known .told)) mine
 
     -- step 8 that succeeds
-    known-done : {st′ : State} {r′ : Row} {o′ : Record} → o′ .place ≡ Store9 → Moved p st st′ r′ o′ → Open p (asked p) (steps p) 2 now replies
+    known-done : {st′ : State} {r′ : Row} {o′ : Record} → o′ .place ≡ Store9 → Moved p st st′ r′ o′ → Open p (asked p) (steps p) 2 now replies × Own p (asked p) played
         → Known st′ (suc now) asked op (put p (suc (steps p)) steps) (played ++ doneCall p (asked p) (op p) now ∷ []) replies
     known-done e m o =
         known-on asked op (put p (suc (steps p)) steps) (played ++ doneCall p (asked p) (op p) now ∷ []) replies
-        (λ q ne. refl) (λ q ne. refl) (put-other p (suc (steps p)) steps) (λ c k. Memᴰ·append-left _ k) (λ q t ne h. h) m
-        (told-call (known .told) (doneCall p (asked p) (op p) now) refl refl (o .since))
+        (λ q ne. refl) (λ q ne. refl) (put-other p (suc (steps p)) steps) (λ c k. Memᴰ·append-left _ k) (λ q t ne h. h) (λ q t ne h. own-snoc q t played (doneCall p (asked p) (op p) now) (λ e. ne (sym e)) h) m
+        (told-call (known .told) (doneCall p (asked p) (op p) now) (o .0 .before) refl refl (o .0 .since) (o .1))
         (subst (KnownAt p (asked p) (put p (suc (steps p)) steps p) (op p) (suc now) (played ++ doneCall p (asked p) (op p) now ∷ []) replies) (sym e)
-        (next-step steps o, (now, omega arith, Memᴰ·append-right played (List·Memᴰ·head refl))))
+        (next-step steps (o .0), (now, omega arith, Memᴰ·append-right played (List·Memᴰ·head refl))))
 
     -- p's reply now
     abbrev reply : ℕ → Answer ℕ → Reply
@@ -174,12 +179,12 @@ module _ {st : State} {now : ℕ} {asked : ℕ → ℕ} {op : ℕ → Op ℕ} {s
 
     -- a step that decides and answers
     known-both : {st′ : State} {r′ : Row} {o′ : Record} {rank : ℕ} (mark : ℕ) (a : Answer ℕ) → o′ .place ≡ Idle → Moved p st st′ r′ o′
-        → Open p (asked p) (steps p) rank now replies → RightSteps a mark (suc (steps p))
+        → Open p (asked p) (steps p) rank now replies × Own p (asked p) played → RightSteps a mark (suc (steps p))
         → Known st′ (suc now) asked op (put p (suc (steps p)) steps) (played ++ callOf (reply mark a) now ∷ []) (replies ++ reply mark a ∷ [])
     known-both mark a e m o right =
         known-on asked op (put p (suc (steps p)) steps) (played ++ callOf (reply mark a) now ∷ []) (replies ++ reply mark a ∷ [])
-        (λ q ne. refl) (λ q ne. refl) (put-other p (suc (steps p)) steps) (λ c k. Memᴰ·append-left _ k) (not-mine mark a) m
-        (told-both (known .told) (reply mark a) (o .before) refl right (o .since))
+        (λ q ne. refl) (λ q ne. refl) (put-other p (suc (steps p)) steps) (λ c k. Memᴰ·append-left _ k) (not-mine mark a) (λ q t ne h. own-snoc q t played (callOf (reply mark a) now) (λ e. ne (sym e)) h) m
+        (told-both (known .told) (reply mark a) (o .0 .before) refl right (o .0 .since) (o .1))
         (subst (KnownAt p (asked p) _ (op p) (suc now) _ _) (sym e) tt)
 
     -- step 10: answered "done"; the call was decided at step 8
@@ -188,7 +193,7 @@ module _ {st : State} {now : ℕ} {asked : ℕ → ℕ} {op : ℕ → Op ℕ} {s
         → Known st′ (suc now) asked op (put p (suc (steps p)) steps) played (replies ++ reply 0 done ∷ [])
     known-answered e m o (d, lt, is) =
         known-on asked op (put p (suc (steps p)) steps) played (replies ++ reply 0 done ∷ [])
-        (λ q ne. refl) (λ q ne. refl) (put-other p (suc (steps p)) steps) (λ c k. k) (not-mine 0 done) m
+        (λ q ne. refl) (λ q ne. refl) (put-other p (suc (steps p)) steps) (λ c k. k) (not-mine 0 done) (λ q t ne h. h) m
         (told-reply (known .told) (reply 0 done) (o .before) refl (refl, o .counted) (d, omega arith, is))
         (subst (KnownAt p (asked p) _ (op p) (suc now) _ _) (sym e) tt)
 
@@ -199,14 +204,8 @@ module _ {st : State} (c : Calls) (known : KnownIn st c) (ready : Ready st) (fol
       KnownIn st′ (goneOn st c p k o b) × (stepsOf st p k o ≡ countedSteps c (entryOf p k) (noteWith st p k o b))
       × (doneCount (goneOn st c p k o b .played) ≡ cond b (suc (doneCount (c .played))) (doneCount (c .played)))
 
-  away-steps : (k : Kind) (o : Outcome) → turnedAway o ≡ true → stepsOf st p k o ≡ 0
-  away-steps kind.Load o e = refl
-  away-steps (kind.Store v) o e = refl
-  away-steps kind.Check o e = refl
-  away-steps kind.Step o e = rw e
-
   away : (k : Kind) (o : Outcome) → turnedAway o ≡ true → Gone k st o false
-  away k o e = go o e (away-steps k o e)
+  away k o e = go o e (away-steps st p k o e)
     where
       go : (o : Outcome) → turnedAway o ≡ true → stepsOf st p k o ≡ 0 → Gone k st o false
       go =
@@ -226,28 +225,28 @@ module _ {st : State} (c : Calls) (known : KnownIn st c) (ready : Ready st) (fol
           asks-check = λ e st′ x m. (known-request known (p .0) l _ m (λ o. o), refl, refl);
           step-1 = λ e st′ x m.
               let o = known-at known (p .0) l e in
-              (known-quiet known (p .0) l m (next-step (c .steps) o), rank-of e (o .counted), refl);
+              (known-quiet known (p .0) l m (next-step (c .steps) (o .0), o .1), rank-of e (o .0 .counted), refl);
           step-2 = λ e st′ x m.
               let o = known-at known (p .0) l e in
-              (known-quiet known (p .0) l m (next-step (c .steps) o), rank-of e (o .counted), refl);
+              (known-quiet known (p .0) l m (next-step (c .steps) (o .0), o .1), rank-of e (o .0 .counted), refl);
           step-3-answers = λ v e near st′ x m.
               let o = known-at known (p .0) l e in
-              (known-both known (p .0) l 1 (value v) refl m o (inl (refl, o .counted)), rank-of e (o .counted), done-snoc (c .played) _);
+              (known-both known (p .0) l 1 (value v) refl m o (inl (refl, o .0 .counted)), rank-of e (o .0 .counted), done-snoc (c .played) _);
           step-3-goes-on = λ v e far st′ x m.
               let o = known-at known (p .0) l e in
-              (known-quiet known (p .0) l m (next-step (c .steps) o), rank-of e (o .counted), refl);
+              (known-quiet known (p .0) l m (next-step (c .steps) (o .0), o .1), rank-of e (o .0 .counted), refl);
           step-5 = λ e st′ x m.
               let o = known-at known (p .0) l e in
-              (known-both known (p .0) l 2 (value _) refl m o (inr (refl, o .counted)), rank-of e (o .counted), done-snoc (c .played) _);
+              (known-both known (p .0) l 2 (value _) refl m o (inr (refl, o .0 .counted)), rank-of e (o .0 .counted), done-snoc (c .played) _);
           step-7 = λ v e st′ x m.
               let o = known-at known (p .0) l e in
-              (known-quiet known (p .0) l m (next-step (c .steps) o), rank-of e (o .counted), refl);
+              (known-quiet known (p .0) l m (next-step (c .steps) (o .0), o .1), rank-of e (o .0 .counted), refl);
           step-8-done = λ e same st′ x m.
               let o = known-at known (p .0) l e in
-              (known-done known (p .0) l refl m o, rank-of e (o .counted), done-snoc (c .played) _);
+              (known-done known (p .0) l refl m o, rank-of e (o .0 .counted), done-snoc (c .played) _);
           step-8-not-done = λ e other st′ x m.
               let o = known-at known (p .0) l e in
-              (known-both known (p .0) l 0 notDone refl m o (refl, o .counted), rank-of e (o .counted), done-snoc (c .played) _);
+              (known-both known (p .0) l 0 notDone refl m o (refl, o .0 .counted), rank-of e (o .0 .counted), done-snoc (c .played) _);
           step-9 = λ e st′ x m.
               let o = known-at known (p .0) l e in (
                 known-quiet known (p .0) l m
@@ -260,10 +259,10 @@ module _ {st : State} (c : Calls) (known : KnownIn st c) (ready : Ready st) (fol
               (known-answered known (p .0) l refl m (o .0) (o .1), rank-of e (o .0 .counted), refl);
           step-14-yes = λ e same st′ x m.
               let o = known-at known (p .0) l e in
-              (known-both known (p .0) l 0 saysYes refl m o (refl, o .counted), rank-of e (o .counted), done-snoc (c .played) _);
+              (known-both known (p .0) l 0 saysYes refl m o (refl, o .0 .counted), rank-of e (o .0 .counted), done-snoc (c .played) _);
           step-14-no = λ e other st′ x m.
               let o = known-at known (p .0) l e in
-              (known-both known (p .0) l 0 saysNo refl m o (refl, o .counted), rank-of e (o .counted), done-snoc (c .played) _);
+              (known-both known (p .0) l 0 saysNo refl m o (refl, o .0 .counted), rank-of e (o .0 .counted), done-snoc (c .played) _);
         }
 
   pub known-entry : (k : Kind) → Gone k (called st p k .state) (called st p k .outcome) (changes st (called st p k .state))

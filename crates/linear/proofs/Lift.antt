@@ -1,13 +1,13 @@
 -- The old number plus one, as a natural number: 0 stands for -1. Every other file of this crate speaks of natural numbers.
 -- Assumes nothing.
-use Prim.Native.Nat.{ℕ, zero, suc, _+_, _-_, _≤_, _<_}
+use Prim.Native.Nat.{ℕ, suc, _+_, _-_, _≤_, _<_}
 use mathlib.Core.Path.{_≡_, refl, sym, subst}
-use mathlib.Core.Bool.{Bool, true, false, cond, _||_, _&&_}
+use mathlib.Core.Bool.{Bool, true, false, cond, _||_}
 use native.Mathlib.Omega.{arith}
 use lib.Dec.{T, leb, ltb, eqb}
 use lib.IntN.{ℤ, pos, negsuc, subℕ, _-ℤ_}
-use lib.Signed.{leZ}
-use borrow.Author.Tests.{ltb-true, ltb-false, leb-true, leb-false, eqb-true, eqb-false, eq-eqb}
+use lib.Signed.{leZ, ltZ}
+use borrow.Author.Tests.{ltb-true, ltb-false, leb-true, leb-false, eqb-true, eqb-false, eq-eqb, le-leb, lt-ltb, le-ltb}
 use Rattle.machine.proofs.Tests.{and-left}
 use Rattle.step.specs.Number.{eqZ, isNear, isOld}
 
@@ -84,3 +84,32 @@ lift-two-less k h = go (ltb k 2) refl
     go : (b : Bool) → ltb k 2 ≡ b → suc (lift (cond b (negsuc (2 - suc k)) (pos (k - 2)))) ≡ k
     go true e = omega (arith, ltb-true k 2 e)
     go false e = omega (arith, ltb-false k 2 e)
+
+-- P10's form. An old number not below -1, and k at most two above it: then it is not below k - 2, ..
+pub not-two-below : (o : ℤ) (k s : ℕ) → isOld o s ≡ true → k ≤ lift o + 1 → leZ (pos k -ℤ pos 2) o ≡ true
+not-two-below (pos n) k s old low = go (ltb k 2) refl
+  where
+    go : (b : Bool) → ltb k 2 ≡ b → leZ (cond b (negsuc (2 - suc k)) (pos (k - 2))) (pos n) ≡ true
+    go true e = refl
+    go false e = le-leb (k - 2) n (omega (arith, ltb-false k 2 e))
+not-two-below (negsuc m) k s old low = go (ltb k 2) refl
+  where
+    go : (b : Bool) → ltb k 2 ≡ b → leZ (cond b (negsuc (2 - suc k)) (pos (k - 2))) (negsuc m) ≡ true
+    go true e = le-leb m (2 - suc k) (omega (arith, leb-true m 0 (and-left (leZ (negsuc 0) (negsuc m)) (leZ (negsuc m) (pos s)) old), low))
+    go false e = absurd (omega (arith, ltb-false k 2 e, low))
+
+-- .. and step 3's test asks only whether it is below k.
+pub near-is-below : (o : ℤ) (k s : ℕ) → isOld o s ≡ true → k ≤ lift o + 1 → isNear o k ≡ ltZ o (pos k)
+near-is-below o k s old low = go (isNear o k) refl
+  where
+    below : (o : ℤ) → lift o ≤ k → true ≡ ltZ o (pos k)
+    below (pos n) l = sym (lt-ltb n k l)
+    below (negsuc m) l = refl
+
+    above : (o : ℤ) → k < lift o → false ≡ ltZ o (pos k)
+    above (pos n) l = sym (le-ltb n k (omega (arith, l)))
+    above (negsuc m) l = absurd (omega (arith, l))
+
+    go : (b : Bool) → isNear o k ≡ b → b ≡ ltZ o (pos k)
+    go true e = below o (guard-low o k e)
+    go false e = above o (guard-high o k s old low e)

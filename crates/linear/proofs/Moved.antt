@@ -1,12 +1,12 @@
 -- What an entry leaves of a state, as far as the invariants speak of it: X, and the row and the record of its process; all else stays.
 -- From here on the states themselves are not looked into.
 -- Assumes nothing.
-use Prim.Native.Nat.{ℕ, _≤_, _<_}
-use mathlib.Core.Path.{_≡_, refl, sym, ap, _∙_, subst}
+use Prim.Native.Nat.{ℕ, _<_}
+use mathlib.Core.Path.{_≡_, refl, ap, _∙_}
 use mathlib.Core.Bool.{Bool, true, false, cond}
 use native.Mathlib.Omega.{arith}
 use lib.Dec.{leb, ltb}
-use lib.ListN.{length, getD, set}
+use lib.ListN.{getD, set}
 use lib.Seq.{getD-set-same, set-getD}
 use borrow.Author.Tests.{lt-ltb, ltb-true, le-leb}
 use Rattle.step.specs.Number.{isNear, sameTag}
@@ -21,15 +21,19 @@ use Rattle.step.specs.declared.Place.{Place}
 use Rattle.step.specs.declared.Place.the-variants.{Idle, Load1, Load2, Load3, Load5, Store7, Store8, Store9, Store10, Check14}
 use Rattle.step.specs.declared.Stepped.{Stepped}
 use Rattle.step.specs.declared.Outcome.the-variants.{NoProcess}
-use Rattle.machine.specs.State.{sound, rowAt, recordAt, noRow, noRecord}
+use Rattle.machine.specs.State.{rowAt, recordAt, noRow, noRecord}
 use Rattle.machine.specs.Entry.{refused, requested, stepped, entered, called}
 use Rattle.machine.specs.declared.State.{State}
 use Rattle.machine.specs.declared.Kind.{Kind}
 use Rattle.machine.specs.declared.Kind.the-variants as kind
 use Rattle.machine.specs.declared.Answer.{Answer}
-use Rattle.machine.proofs.Soundness.{range-of, Sound, sound-back, row-below}
-use Rattle.machine.proofs.Frame.{Frame, frame, Full}
+use Rattle.machine.proofs.Soundness.{range-of, sound-back}
+use Rattle.machine.proofs.Frame.{Frame, frame}
 use Rattle.machine.proofs.Runs.{Ready}
+
+-- the process in a kept tag is below N
+pub tag-below : (st : State) (p : ℕ) → Ready st → p < st .n → recordAt st p .kept .process .0 < st .n
+tag-below st p ready l = ready .sure .each p l .kept .owner
 
 -- p's row is r′ and p's record is o′, and of the others nothing has changed
 pub record Moved (p : ℕ) (st st′ : State) (r′ : Row) (o′ : Record) : Type 0 where

@@ -1,8 +1,7 @@
 -- An entry's note by its outcome and whether X changed, and what the turned-away outcomes say.
 -- Assumes nothing.
-use Prim.Native.Nat.{ℕ}
 use mathlib.Core.Path.{_≡_, refl, sym, subst}
-use mathlib.Core.Bool.{Bool, true, false}
+use mathlib.Core.Bool.{Bool, true}
 use lib.Dec.{T}
 use Rattle.step.specs.Outcomes.{toldOf}
 use Rattle.step.specs.declared.Process.{Process}
@@ -11,6 +10,7 @@ use Rattle.step.specs.declared.Outcome.the-variants.{Taken, GoesOn, Current, Ol
 use Rattle.machine.specs.Run.{Entry, Note, turnedAway, stepsOf}
 use Rattle.machine.specs.declared.State.{State}
 use Rattle.machine.specs.declared.Kind.{Kind}
+use Rattle.machine.specs.declared.Kind.the-variants as kind
 use Rattle.linear.specs.Calls.{Calls, goOn}
 
 abbrev pub entryOf : Process → Kind → Entry
@@ -30,6 +30,13 @@ noteWith st p k o b =
 -- the calls after it
 abbrev pub goneOn : State → Calls → Process → Kind → Outcome → Bool → Calls
 goneOn st c p k o b = goOn c (entryOf p k) (noteWith st p k o b)
+
+-- a refused entry has no steps
+pub away-steps : (st : State) (p : Process) (k : Kind) (o : Outcome) → turnedAway o ≡ true → stepsOf st p k o ≡ 0
+away-steps st p kind.Load o e = refl
+away-steps st p (kind.Store v) o e = refl
+away-steps st p kind.Check o e = refl
+away-steps st p kind.Step o e = rw e
 
 -- what holds of the five outcomes that turn away
 pub by-away : (P : Outcome → Type 0) → P NoProcess → P CallOpen → P UsedUp → P NoCall → P Unsound → (o : Outcome) → turnedAway o ≡ true → P o

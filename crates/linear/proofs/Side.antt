@@ -1,27 +1,26 @@
 -- The simulation relation between the machine and the order of the calls decided so far, and how it goes on for the processes that take
 -- no step.
 -- Assumes nothing.
-use Prim.Native.Nat.{ℕ, zero, suc, _≤_, _<_}
+use Prim.Native.Nat.{ℕ, suc, _<_}
 use mathlib.Core.Path.{_≡_, refl, sym, ap, _∙_, subst, subst₂}
-use mathlib.Core.Bool.{Bool, true, false, cond}
+use mathlib.Core.Bool.{false}
 use mathlib.Core.Option.{none, some}
 use mathlib.Core.Logic.{_≢_, _⊎_, inl, inr}
 use mathlib.Core.List.{List, [], _∷_, _++_}
 use native.Mathlib.Omega.{arith}
-use lib.Dec.{eqb}
-use borrow.Author.Tests.{eq-eqb, ne-eqb}
+use borrow.Author.Tests.{ne-eqb}
 use Rattle.step.specs.declared.Row.{Row}
 use Rattle.step.specs.declared.Record.{Record}
 use Rattle.step.specs.declared.Place.{Place}
 use Rattle.step.specs.declared.Place.the-variants.{Idle, Load1, Load2, Load3, Load5, Store7, Store8, Store9, Store10, Check14}
 use Rattle.machine.specs.State.{rowAt, recordAt}
 use Rattle.machine.specs.declared.State.{State}
-use Rattle.word.specs.Word.{Link, at, Op, load, store, check, put, linked, first}
+use Rattle.word.specs.Word.{Link, at, Op, load, store, check, linked, first}
 use Rattle.word.specs.Word as word
-use Rattle.word.specs.Order.{Call, step}
+use Rattle.word.specs.Order.{Call}
 use Rattle.word.proofs.Play.{after, after-snoc}
 use Rattle.word.proofs.Changes.{writes, total, valueAfter, total-quiet, total-snoc}
-use Rattle.word.proofs.Relink.{NoLoad, link-kept, link-others, relink}
+use Rattle.word.proofs.Relink.{NoLoad, link-kept, link-others}
 use Rattle.word.proofs.Insert.{loadCall, ins, total-ins}
 use Rattle.word.proofs.Good.{Good, Own, Late, MayLoad, own-snoc, own-ins, late-snoc, late-ins, good-load-after}
 use Rattle.linear.proofs.History.{Change, At}

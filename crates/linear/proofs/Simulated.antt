@@ -1,21 +1,18 @@
 -- The simulation relation holds at the start and goes on by every entry.
 -- Assumes nothing.
-use Prim.Native.Nat.{ℕ, zero, suc, _+_, _%_, _≤_, _<_}
+use Prim.Native.Nat.{ℕ, _%_, _≤_, _<_}
 use mathlib.Core.Path.{_≡_, refl, sym, ap, _∙_, subst}
 use mathlib.Core.Bool.{Bool, true, false, cond}
-use mathlib.Core.Logic.{_⊎_, inl, inr}
-use mathlib.Core.List.{List, [], _∷_, filterMap}
+use mathlib.Core.Logic.{inl, inr}
+use mathlib.Core.List.{[], _∷_, filterMap}
 use native.Mathlib.Omega.{arith}
 use native.Mathlib.Decide.{ℕ-discrete}
-use lib.ListN.{length}
 use lib.Seq.{getD-set-same}
 use Rattle.step.specs.Steps.{at, withSlot}
 use Rattle.step.specs.declared.Process.{Process}
 use Rattle.step.specs.declared.Sequence.{Sequence}
-use Rattle.step.specs.declared.Row.{Row}
-use Rattle.step.specs.declared.Record.{Record}
 use Rattle.step.specs.declared.Place.{Place}
-use Rattle.step.specs.declared.Place.the-variants.{Idle, Load1, Load2, Load3, Load5, Store7, Store8, Store9, Store10, Check14}
+use Rattle.step.specs.declared.Place.the-variants.{Idle, Load1, Load3, Load5, Store7, Store8, Check14}
 use Rattle.step.specs.declared.Outcome.{Outcome}
 use Rattle.machine.specs.State.{inRange, rowAt, recordAt}
 use Rattle.machine.specs.Opening.{firstState}
@@ -23,22 +20,21 @@ use Rattle.machine.specs.Entry.{called}
 use Rattle.machine.specs.Run.{changes}
 use Rattle.machine.specs.declared.State.{State}
 use Rattle.machine.specs.declared.Kind.{Kind}
-use Rattle.machine.proofs.Soundness.{range-of, Sound}
-use Rattle.machine.proofs.Frame.{Full}
+use Rattle.machine.proofs.Soundness.{range-of}
 use Rattle.machine.proofs.Runs.{Ready}
-use Rattle.word.specs.Word.{Link, none, Op, load, store, check, Answer, done, notDone, saysYes, saysNo, put}
+use Rattle.word.specs.Word.{none, load, store, check, done, notDone, saysYes, saysNo}
 use Rattle.word.specs.Word as word
-use Rattle.word.specs.Order.{Call}
 use Rattle.word.proofs.Changes.{total, valueAfter}
 use Rattle.word.proofs.Good.{good-start, late-new, Late}
-use Rattle.linear.specs.Calls.{Calls, noCalls, goOn}
+use Rattle.linear.specs.Calls.{Calls, noCalls}
 use Rattle.linear.proofs.Lift.{guard-low}
 use Rattle.linear.proofs.History.{At}
-use Rattle.linear.proofs.Invariant.{slotOf, oldUp, olds, Inv}
+use Rattle.linear.proofs.Invariant.{slotOf}
 use Rattle.linear.proofs.Consequences.{place-low, old-place}
+use Rattle.linear.proofs.Moved.{tag-below}
 use Rattle.linear.proofs.Kept.{one-at, seen-at, kept-calm, kept-1, kept-2, kept-3, kept-7, kept-8, kept-9, kept-10}
 use Rattle.linear.proofs.Start.{idle-start, firstChange, inv-start}
-use Rattle.linear.proofs.Side.{LinkOk, Undecided, LateFor, Side, SideAt, Sim, way-same, undecided-on, loading-on}
+use Rattle.linear.proofs.Side.{LinkOk, LateFor, Side, SideAt, Sim, way-same, undecided-on, loading-on}
 use Rattle.linear.proofs.Join.{sim-tick, side-at, sim-quiet, sim-request, sim-load, agree, sim-append, sim-done}
 use Rattle.linear.proofs.Cases.{Cases, by-cases}
 use Rattle.linear.proofs.Noted.{goneOn, by-away}
@@ -81,10 +77,6 @@ module _ {v : ℕ} {st : State} (c : Calls) (s : Simulated v st c) (ready : Read
   Next k st′ o b = Simulated v st′ (goneOn st c p k o b)
 
   module _ (l : p .0 < st .n) where
-    -- the process in p's kept tag is below N
-    q-below : recordAt st (p .0) .kept .process .0 < st .n
-    q-below = ready .sure .each (p .0) l .kept .owner
-
     cases : Cases Next st (p .0)
     cases =
         record {
@@ -101,7 +93,7 @@ module _ {v : ℕ} {st : State} (c : Calls) (s : Simulated v st c) (ready : Read
               sim-quiet s (p .0) l (word.at (total 0 (s .order))) m (kept-1 st (p .0) (s .inv) l e m x)
               (record { link = tt; call = (undecided-on (way-same v (c .now) (s .order) (p .0)) (side-at s (p .0) l e .call), first-seen) });
           step-2 = λ e st′ x m.
-              sim-quiet s (p .0) l (s .seen (p .0)) m (kept-2 st (p .0) (s .inv) l q-below e m x)
+              sim-quiet s (p .0) l (s .seen (p .0)) m (kept-2 st (p .0) (s .inv) l (tag-below st (p .0) ready l) e m x)
               (record { link = tt; call = loading-on (way-same v (c .now) (s .order) (p .0)) (side-at s (p .0) l e .call) });
           step-3-answers = λ u e near st′ x m.
               let (i, sn, f) = one-at st (p .0) (s .inv) l e .stage in
@@ -112,12 +104,12 @@ module _ {v : ℕ} {st : State} (c : Calls) (s : Simulated v st c) (ready : Read
               (link-here (total 0 (s .order)) i (place-low (s .inv) i _ _ _ a));
           step-3-goes-on = λ u e far st′ x m.
               sim-quiet s (p .0) l (s .seen (p .0)) m
-              (kept-3 st (p .0) (s .inv) l u (st .s .0) q-below (ready .sure .each (recordAt st (p .0) .kept .process .0) q-below .old) e far m x)
+              (kept-3 st (p .0) (s .inv) l u (st .s .0) (tag-below st (p .0) ready l) (ready .sure .each (recordAt st (p .0) .kept .process .0) (tag-below st (p .0) ready l) .old) e far m x)
               (record { link = tt; call = loading-on (way-same v (c .now) (s .order) (p .0)) (side-at s (p .0) l e .call) });
           step-5 = λ e st′ x m.
               let (i, sn, high) = one-at st (p .0) (s .inv) l e .stage in
               let (u, a) = seen-at st (p .0) (s .inv) l i sn in
-              let (n, le, lt, j, b) = old-place (s .inv) i (recordAt st (p .0) .kept .process .0) (recordAt st (p .0) .kept .number .0) u q-below a high in
+              let (n, le, lt, j, b) = old-place (s .inv) i (recordAt st (p .0) .kept .process .0) (recordAt st (p .0) .kept .number .0) u (tag-below st (p .0) ready l) a high in
               sim-load s (p .0) l i n (recordAt st (p .0) .kept .process .0) j _ refl m
               (kept-calm st (p .0) (s .inv) l Load5 Idle e refl refl m x tt)
               (side-at s (p .0) l e .call .0) (side-at s (p .0) l e .call .1) sn le b

@@ -1,10 +1,10 @@
 -- The invariants at the start: one change, of process 0, to the first value; nobody has seen anything.
 -- Assumes nothing.
-use Prim.Native.Nat.{ℕ, zero, suc, _+_, _≤_, _<_}
+use Prim.Native.Nat.{ℕ, zero, suc, _<_}
 use mathlib.Core.Path.{_≡_, refl, sym, ap, subst, subst₂}
 use mathlib.Core.Bool.{true}
 use mathlib.Core.Logic.{inl, inr}
-use mathlib.Core.List.{List, [], _∷_}
+use mathlib.Core.List.{[], _∷_}
 use native.Mathlib.Omega.{arith}
 use lib.IntN.{pos, negsuc}
 use lib.ListN.{getD-replicate}
@@ -14,9 +14,9 @@ use Rattle.step.specs.declared.Record.{Record}
 use Rattle.step.specs.declared.Place.the-variants.{Idle}
 use Rattle.machine.specs.State.{inRange, rowAt, recordAt, noRow, noRecord}
 use Rattle.machine.specs.Opening.{firstRow, firstRecord, firstState}
-use Rattle.machine.proofs.Soundness.{InRange, range-of}
-use Rattle.word.specs.Word.{Link, none}
-use Rattle.linear.proofs.History.{Change, At, Sorted, Held}
+use Rattle.machine.proofs.Soundness.{range-of}
+use Rattle.word.specs.Word.{none}
+use Rattle.linear.proofs.History.{Change, At}
 use Rattle.linear.proofs.Invariant.{slotOf, OneAt, Inv}
 
 -- everybody is idle

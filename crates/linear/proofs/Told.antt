@@ -1,16 +1,17 @@
 -- The replies and the calls played so far, with no machine in them: how they go on when an entry decides a call, answers one, or both.
 -- Assumes nothing.
-use Prim.Native.Nat.{ℕ, suc, _+_, _≤_, _<_}
-use mathlib.Core.Path.{_≡_, refl, sym, ap, _∙_, subst}
+use Prim.Native.Nat.{ℕ, suc, _≤_, _<_}
+use mathlib.Core.Path.{_≡_, refl, sym, ap, subst}
 use mathlib.Core.Bool.{Bool, true, false, cond}
-use mathlib.Core.Logic.{_⊎_, inl, inr, ⊎-elim}
+use mathlib.Core.Logic.{inl, inr, ⊎-elim}
 use mathlib.Core.List.{List, [], _∷_, _++_, List·Memᴰ, List·Memᴰ·head, List·Memᴰ·not-nil, List·Memᴰ·cases-cons, Memᴰ·append-left, Memᴰ·append-right}
 use native.Mathlib.Omega.{arith}
-use Rattle.word.specs.Word.{Op, Answer, done}
+use Rattle.word.specs.Word.{done}
 use Rattle.word.specs.Order.{Call, Every}
 use Rattle.word.proofs.Lists.{every-map, every-both, every-snoc}
+use Rattle.word.proofs.Good.{Own}
 use Rattle.linear.specs.Calls.{Reply}
-use Rattle.linear.specs.Demand3.{callOf, IsPlayed, AnsweredOrDone, RightSteps, isDone, doneCount}
+use Rattle.linear.specs.Demand3.{callOf, IsPlayed, OneByOne, AnsweredOrDone, RightSteps, isDone, doneCount}
 
 -- what holds of every element holds of one that is there
 pub every-mem : {B : Type 0} (P : B → Type 0) (l : List B) (b : B) → Every P l → List·Memᴰ b l → P b
@@ -34,10 +35,16 @@ pub record Told (now : ℕ) (played : List (Call ℕ)) (replies : List Reply) : 
   pub answered : Every (IsPlayed played) replies
   pub rightSteps : Every (λ r. RightSteps (r .answer) (r .mark) (r .steps)) replies
   pub late : Every (λ c. Every (NotLater c) replies) played
+  pub oneByOne : OneByOne played
   pub only : Every (AnsweredOrDone replies) played
 
+one-more : (l : List (Call ℕ)) (c : Call ℕ) → OneByOne l → c .asked < c .decided → Own (c .process) (c .asked) l → OneByOne (l ++ c ∷ [])
+one-more [] c h span own = (span, tt, tt)
+one-more (x ∷ l) c h span own =
+    (h .0, every-snoc (λ d. x .process ≡ d .process → x .decided < d .asked) l c (h .1) (λ e. own .0 e), one-more l c (h .2) span (own .1))
+
 pub told-start : Told 0 [] []
-told-start = record { spans = tt; decided = tt; answered = tt; rightSteps = tt; late = tt; only = tt }
+told-start = record { spans = tt; decided = tt; answered = tt; rightSteps = tt; late = tt; oneByOne = tt; only = tt }
 
 -- how the facts on replies and calls go on when there is one more of the other kind
 more-played : (played : List (Call ℕ)) (replies : List Reply) (c : Call ℕ) → Every (IsPlayed played) replies → Every (IsPlayed (played ++ c ∷ [])) replies
@@ -61,7 +68,7 @@ module _ {now : ℕ} {played : List (Call ℕ)} {replies : List Reply} (told : T
   -- an entry that neither decides nor answers
   pub told-tick : Told (suc now) played replies
   told-tick =
-      record { spans = spans-on; decided = decided-on; answered = told .answered; rightSteps = told .rightSteps; late = told .late; only = told .only }
+      record { spans = spans-on; decided = decided-on; answered = told .answered; rightSteps = told .rightSteps; late = told .late; oneByOne = told .oneByOne; only = told .only }
 
   -- a reply now is later than all calls decided so far
   late-reply : (r : Reply) → r .place ≡ now → Every (λ c. Every (NotLater c) (replies ++ r ∷ [])) played
@@ -78,14 +85,15 @@ module _ {now : ℕ} {played : List (Call ℕ)} {replies : List Reply} (told : T
       replies (every-both _ _ replies (told .spans) since)
 
   -- step 8 that succeeds: decided, not answered yet
-  pub told-call : (c : Call ℕ) → c .decided ≡ now → c .answer ≡ done → Since (c .process) (c .asked) replies → Told (suc now) (played ++ c ∷ []) replies
-  told-call c e d since =
+  pub told-call : (c : Call ℕ) → c .asked < now → c .decided ≡ now → c .answer ≡ done → Since (c .process) (c .asked) replies → Own (c .process) (c .asked) played → Told (suc now) (played ++ c ∷ []) replies
+  told-call c l e d since own =
       record {
         spans = spans-on;
         decided = every-snoc (λ c. c .decided < suc now) played c decided-on (omega arith);
         answered = more-played played replies c (told .answered);
         rightSteps = told .rightSteps;
         late = every-snoc (λ c. Every (NotLater c) replies) played c (told .late) (late-call c since);
+        oneByOne = one-more played c (told .oneByOne) (omega arith) own;
         only = every-snoc (AnsweredOrDone replies) played c (told .only) (inl d);
       }
 
@@ -98,13 +106,14 @@ module _ {now : ℕ} {played : List (Call ℕ)} {replies : List Reply} (told : T
         answered = every-snoc (IsPlayed played) replies r (told .answered) is;
         rightSteps = every-snoc (λ r. RightSteps (r .answer) (r .mark) (r .steps)) replies r (told .rightSteps) right;
         late = late-reply r e;
+        oneByOne = told .oneByOne;
         only = more-replies played replies r (told .only);
       }
 
   -- every other answer: decided and answered now
-  pub told-both : (r : Reply) → r .asked < now → r .place ≡ now → RightSteps (r .answer) (r .mark) (r .steps) → Since (r .process) (r .asked) replies
+  pub told-both : (r : Reply) → r .asked < now → r .place ≡ now → RightSteps (r .answer) (r .mark) (r .steps) → Since (r .process) (r .asked) replies → Own (r .process) (r .asked) played
       → Told (suc now) (played ++ callOf r (r .place) ∷ []) (replies ++ r ∷ [])
-  told-both r l e right since =
+  told-both r l e right since own =
       record {
         spans = every-snoc (λ r. (r .asked < r .place) × (r .place < suc now)) replies r spans-on (omega arith);
         decided = every-snoc (λ c. c .decided < suc now) played c decided-on (omega arith);
@@ -115,6 +124,7 @@ module _ {now : ℕ} {played : List (Call ℕ)} {replies : List Reply} (told : T
         late =
             every-snoc (λ c. Every (NotLater c) (replies ++ r ∷ [])) played c (late-reply r e)
             (every-snoc (NotLater c) replies r (late-call c since) (λ f g. omega arith));
+        oneByOne = one-more played c (told .oneByOne) (omega arith) own;
         only =
             every-snoc (AnsweredOrDone (replies ++ r ∷ [])) played c (more-replies played replies r (told .only))
             (inr (r, last-mem replies r, refl));

@@ -1,8 +1,8 @@
 -- The calls of a run, read from its entries and from what the log says of each (machine/specs/Run.antt), and from nothing else.
 -- Time is counted in places of the run: its first entry has place 0.
 -- Assumes nothing.
-use Prim.Native.Nat.{ℕ, zero, suc}
-use mathlib.Core.Bool.{Bool, true, false, cond, _&&_}
+use Prim.Native.Nat.{ℕ, suc}
+use mathlib.Core.Bool.{Bool, cond, _&&_}
 use mathlib.Core.Option.{Option, none, some}
 use mathlib.Core.List.{List, [], _∷_, _++_}
 use lib.Dec.{eqb, leb}

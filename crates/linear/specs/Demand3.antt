@@ -2,7 +2,7 @@
 -- linked word plays, and the counts of the log. `Demand3 v es ws` speaks of a run of the entries es with the notes ws, from first value
 -- v. The calls are those of specs/Calls.antt; the word, and what an order must keep, are those of word/specs.
 -- Assumes nothing.
-use Prim.Native.Nat.{ℕ, suc, _≤_}
+use Prim.Native.Nat.{ℕ, suc, _≤_, _<_}
 use mathlib.Core.Path.{_≡_}
 use mathlib.Core.Bool.{Bool, true, false, cond}
 use mathlib.Core.Logic.{_⊎_}
@@ -27,6 +27,12 @@ Answered replies c t = (r : Reply) × List·Memᴰ r replies × (r .place ≡ t)
 -- Nothing else is played: a played call was answered with that answer where it was decided, or it is a store that has changed the word.
 abbrev pub AnsweredOrDone : List Reply → Call ℕ → Type 0
 AnsweredOrDone replies c = (c .answer ≡ done) ⊎ ((r : Reply) × List·Memᴰ r replies × (callOf r (r .place) ≡ c))
+
+-- No request is played twice: each call was requested before it was decided, and of two calls of one process, in the order in which they
+-- were decided, the earlier was decided before the later was requested.
+abbrev pub OneByOne : List (Call ℕ) → Type 0
+OneByOne [] = Unit {0}
+OneByOne (c ∷ cs) = (c .asked < c .decided) × Every (λ d. c .process ≡ d .process → c .decided < d .asked) cs × OneByOne cs
 
 -- "A load is answered at its third own step (mark 1) or fourth (mark 2), a store that fails at its second, one that succeeds at its
 -- fourth, a check at its first."
@@ -61,8 +67,9 @@ pub record Demand3 (v : ℕ) (es : List Entry) (ws : List Note) : Type 0 where
   pub inOrder : InOrder v (callsOf es ws .played)
   -- "a call answered before another was requested stands first"
   pub first : StandsFirst (Answered (callsOf es ws .replies)) (inOrder .order)
-  -- every answered call is among them, and nothing but these and stores that have changed the word
+  -- every answered call is among them, no request twice, and nothing but these and stores that have changed the word
   pub answered : Every (IsPlayed (callsOf es ws .played)) (callsOf es ws .replies)
+  pub oneByOne : OneByOne (callsOf es ws .played)
   pub only : Every (AnsweredOrDone (callsOf es ws .replies)) (callsOf es ws .played)
   -- the counts
   pub rightSteps : Every (λ r. RightSteps (r .answer) (r .mark) (r .steps)) (callsOf es ws .replies)
