@@ -1,5 +1,11 @@
 #include "compare.h"
 
+#ifndef KEEP_IN
+#define KEEP_IN "/tmp"
+#endif
+
+enum { MOST_KEPT = 10, MOST_SAID = 40 }; /* a bench that is wrong throughout would fill disk and screen */
+
 enum { PAGE = 4096, ARENA = 18 * PAGE }; /* room for the longest file or log and two guards */
 
 struct arena {
@@ -31,8 +37,12 @@ size_t compared_same;
 
 void keep_file(const uint8_t *file, size_t file_len, uint64_t index)
 {
-    char name[64];
-    snprintf(name, sizeof name, "/tmp/rig-fail-%llu.bin", (unsigned long long)index);
+    static uint32_t kept;
+    char name[200];
+    if (kept++ >= MOST_KEPT) {
+        return;
+    }
+    snprintf(name, sizeof name, KEEP_IN "/rig-fail-%llu.bin", (unsigned long long)index);
     FILE *out = fopen(name, "wb");
     if (out != NULL) {
         fwrite(file, 1, file_len, out);
@@ -98,34 +108,40 @@ static bool guards_hold(const struct lent *l)
            memcmp(l->bytes + l->length, guard_bytes, l->after) == 0;
 }
 
+/* False, for use behind an `or`. Says what is wrong, unless enough was said. */
 static bool complain(const char *what)
 {
-    printf("FAILED: seed %llu index %llu: %s\n", (unsigned long long)seed_now, (unsigned long long)index_now, what);
+    static uint32_t said;
+    if (said++ < MOST_SAID) {
+        printf("FAILED: seed %llu index %llu: %s\n", (unsigned long long)seed_now, (unsigned long long)index_now, what);
+    }
     return false;
 }
 
 static bool same_logs(const struct lent *own, const struct lent *proved)
 {
+    char what[160];
+    size_t i = 0;
     if (memcmp(own->bytes, proved->bytes, own->length) == 0) {
         return true;
     }
-    size_t i = 0;
     while (own->bytes[i] == proved->bytes[i]) {
         i++;
     }
-    complain("the logs differ");
-    printf("  first at byte %zu of %zu: reference %u, proved run %u\n", i, own->length, own->bytes[i], proved->bytes[i]);
-    return false;
+    snprintf(what, sizeof what, "the logs differ, first at byte %zu of %zu: reference %u, proved run %u", i, own->length,
+             own->bytes[i], proved->bytes[i]);
+    return complain(what);
 }
 
 static bool same_numbers(uint32_t own, uint32_t proved)
 {
+    char what[160];
     if (own == proved) {
         return true;
     }
-    complain("the numbers differ");
-    printf("  reference %u block %u, proved run %u block %u\n", own % 256, own / 256, proved % 256, proved / 256);
-    return false;
+    snprintf(what, sizeof what, "the numbers differ: reference %u block %u, proved run %u block %u", own % 256, own / 256,
+             proved % 256, proved / 256);
+    return complain(what);
 }
 
 /* A refused file leaves the log as it was; said here apart from the comparison, as the reference might err too. */

@@ -24,7 +24,7 @@ struct compared {
 void compare_start(uint64_t seed); /* once, before the first comparison */
 struct compared compare(const uint8_t *file, size_t file_len, size_t log_len, enum standing standing, uint64_t index);
 
-/* Keeps a file for a later look: /tmp/rig-fail-INDEX.bin. */
+/* Keeps a file for a later look, /tmp/rig-fail-INDEX.bin; only the first ten of a run. */
 void keep_file(const uint8_t *file, size_t file_len, uint64_t index);
 
 extern size_t compared_same; /* for the last line, also when the program has to end at once */

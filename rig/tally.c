@@ -144,10 +144,13 @@ static void print_line(const char *name, uint64_t count)
     printf("  %-36s %12llu\n", name, (unsigned long long)count);
 }
 
+/* Styles and defects are known of generated samples only. */
 void tally_print(const struct tally *t, bool samples)
 {
     for (uint32_t i = 0; i < ROWS; i++) {
-        print_line(row_names[i], t->row[i]);
+        if (samples || i != ROW_SEVERAL_DEFECTS) {
+            print_line(row_names[i], t->row[i]);
+        }
     }
     for (uint32_t n = 1; n <= PROCESSES; n++) {
         char name[32];
