@@ -1,27 +1,25 @@
 -- The loop over the blocks: a run in parts is the run of all of them, and its records stand one after another.
 use Prim.Native.Nat.{ℕ, zero, suc, _+_, _-_, _*_, _/_, _≤_, _<_}
-use mathlib.Core.Path.{_≡_, refl, sym, ap, subst, _∙_}
+use mathlib.Core.Path.{_≡_, refl, sym, ap, _∙_}
 use mathlib.Core.Bool.{true}
-use mathlib.Core.List.{List, [], _∷_, _++_, map, map-append, append-assoc}
+use mathlib.Core.List.{List, _++_, map, map-append, append-assoc}
 use native.Mathlib.Numerals.{add-one}
-use native.Mathlib.Nat.{mul-comm}
 use native.Mathlib.Omega.{arith}
 use native.Mathlib.Decide.{decLe}
-use lib.ListN.{length, getD, take, drop, length-append, length-drop, length-map}
+use lib.ListN.{length, take, drop, length-append, length-drop, length-map}
 use lib.Seq.{take-at, drop-at, drop-drop}
-use Rattle.machine.specs.Run.{Entry, Note, notes, after, changeCount}
-use Rattle.machine.proofs.Runs.{Ready, ready-after, after-append, notes-append, notes-length, count-append, count-most}
-use Rattle.schedule.specs.Bytes.{listBelow}
+use Rattle.step.specs.declared.Entry.{Entry}
+use Rattle.machine.specs.Frame.{Ready}
+use Rattle.machine.specs.Run.{notes, after, changeCount}
+use Rattle.machine.proofs.RunLaws.{ready-after, after-append, notes-append, notes-length, count-append, count-most}
+use Rattle.numbers.proofs.Below.{same-below}
 use Rattle.schedule.specs.Later.{meant, count, entryBytes, entryAt, usedPart, blockEntries}
 use Rattle.schedule.specs.File.{blockAt, blocksAfter, entriesTo, fileEntries, reading, isAccepted}
-use Rattle.schedule.specs.declared.Entry as file
-use Rattle.schedule.specs.declared.Entry.the-variants.{Nothing}
-use Rattle.schedule.proofs.Entries.{block-entry, block-entries, used-length, used-entry, entries-none, entries-next, entries-more}
-use Rattle.schedule.proofs.Accepted.{accepted-length, accepted-room}
+use Rattle.schedule.proofs.Entries.{block-entry, used-length, used-entry, entries-none, entries-next, entries-more}
+use Rattle.schedule.proofs.Accepted.{accepted-room}
 use Rattle.log.specs.Log.{recordsOf}
 use Rattle.log.proofs.Laws.{records-length, records-append, tail-given, tail-back}
-use Rattle.bench.specs.Asked.{asked, inLog, askedOf, partEntries}
-use Rattle.bench.specs.Play.{playedFrom, recordsFrom}
+use Rattle.bench.specs.Play.{inLog, partEntries, playedFrom, recordsFrom}
 use Rattle.bench.specs.declared.Played.{Played}
 
 -- A run that goes on is one run.
@@ -54,20 +52,11 @@ records-grow from es fs rest₀ rest back at place is laid =
     more = omega arith
 
 -- The entries that are read from a block's used part are the block's entries.
-map-below : {A B : Type 0} (f : A → B) (n : ℕ) (g : ℕ → A) → map f (listBelow n g) ≡ listBelow n (λ j. f (g j))
-map-below f zero g = refl
-map-below f (suc n) g = rw (map-append, map-below f n g)
-
-same-below : {A : Type 0} (n : ℕ) (f g : ℕ → A) → ((j : ℕ) → j < n → f j ≡ g j) → listBelow n f ≡ listBelow n g
-same-below zero f g h = refl
-same-below (suc n) f g h = rw (same-below n f g (λ j l. h j (omega (arith, l))), h n (omega arith))
-
-pub part-entries : (b : List ℕ) → 4 + 12 * count b ≤ length b → partEntries (usedPart b) (length (usedPart b) / 12) ≡ map asked (blockEntries b)
+pub part-entries : (b : List ℕ) → 4 + 12 * count b ≤ length b → partEntries (usedPart b) (length (usedPart b) / 12) ≡ blockEntries b
 unfolding partEntries blockEntries
 part-entries b room =
-    rw (whole, map-below)
-    (same-below (count b) (λ j. asked (entryAt (usedPart b) j)) (λ j. asked (meant (entryBytes b j)))
-    (λ j l. ap asked (used-entry b room j ∙ block-entry b j l)))
+    rw whole
+    (same-below (count b) (λ j. entryAt (usedPart b) j) (λ j. meant (entryBytes b j)) (λ j l. used-entry b room j ∙ block-entry b j l))
   where
     whole : length (usedPart b) / 12 ≡ count b
     whole = rw (used-length b room) (omega arith)
@@ -95,8 +84,8 @@ pub record Walk (f rest₀ : List ℕ) (last : ℕ) (from : Played) (rest : List
   pub blocks : last ≡ blocksAfter f
   pub within : done ≤ last
   pub place : i ≡ length (entriesTo f done)
-  pub state : played ≡ playedFrom from (map asked (entriesTo f done))
-  pub log : rest ≡ recordsFrom from (map asked (entriesTo f done)) rest₀
+  pub state : played ≡ playedFrom from (entriesTo f done)
+  pub log : rest ≡ recordsFrom from (entriesTo f done) rest₀
 
 pub walk-start : (f rest₀ : List ℕ) (from : Played) → isAccepted (reading f) ≡ true → Ready (from .state) → 12 * length (fileEntries f) ≤ length rest₀
     → from .changes .0 + length (fileEntries f) < 4294967295 → Walk f rest₀ (length f / 512 - 1) from rest₀ from 0 0
@@ -128,12 +117,12 @@ module _ {f rest₀ : List ℕ} {last : ℕ} {from : Played} {rest : List ℕ} {
   pub so-far-fits : i ≤ length (fileEntries f)
   so-far-fits = omega (arith, h .place, entries-fewer f done (blocksAfter f) (omega (arith, h .blocks, h .within)))
 
-  records-done : length (recordsOf (map inLog (notes (from .state) (map asked (entriesTo f done))))) ≡ 12 * i
-  records-done = rw (records-length, length-map, notes-length, length-map, h .place)
+  records-done : length (recordsOf (map inLog (notes (from .state) (entriesTo f done)))) ≡ 12 * i
+  records-done = rw (records-length, length-map, notes-length, h .place)
 
   pub walk-length : length rest ≡ length rest₀
   unfolding recordsFrom
-  walk-length = rw (h .log, length-append, records-done, length-drop, length-map, ← h .place) (omega (arith, so-far-fits, h .room))
+  walk-length = rw (h .log, length-append, records-done, length-drop, ← h .place) (omega (arith, so-far-fits, h .room))
 
   block-room : done < last → 4 + 12 * count (blockAt f (done + 1)) ≤ length (blockAt f (done + 1))
   block-room l = accepted-room f (h .ok) (done + 1) (omega arith) (omega (arith, h .blocks))
@@ -145,7 +134,7 @@ module _ {f rest₀ : List ℕ} {last : ℕ} {from : Played} {rest : List ℕ} {
 
     pub part-ready : Ready (played .state)
     unfolding playedFrom
-    part-ready = rw (h .state) (ready-after (from .state) (map asked (entriesTo f done)) (h .ready))
+    part-ready = rw (h .state) (ready-after (from .state) (entriesTo f done) (h .ready))
 
     pub part-room : 12 * (length part / 12) ≤ length rest - 12 * i
     part-room = rw (part-count, walk-length) (omega (arith, next-fits l, h .room))
@@ -153,17 +142,16 @@ module _ {f rest₀ : List ℕ} {last : ℕ} {from : Played} {rest : List ℕ} {
     pub part-few : played .changes .0 + length part / 12 < 4294967295
     unfolding playedFrom
     part-few =
-        let es = map asked (entriesTo f done) in
+        let es = entriesTo f done in
         let most = count-most (notes (from .state) es) in
         let long = notes-length (from .state) es in
-        let same = length-map (entriesTo f done) asked in
-        rw (h .state, part-count) (omega (arith, most, long, same, h .place, next-fits l, h .few))
+        rw (h .state, part-count) (omega (arith, most, long, h .place, next-fits l, h .few))
 
-    entries-are : partEntries part (length part / 12) ≡ map asked (blockEntries (blockAt f (done + 1)))
+    entries-are : partEntries part (length part / 12) ≡ blockEntries (blockAt f (done + 1))
     entries-are = rw (used, is) (part-entries (blockAt f (done + 1)) (block-room l))
 
-    file-entries : map asked (entriesTo f done) ++ map asked (blockEntries (blockAt f (done + 1))) ≡ map asked (entriesTo f (done + 1))
-    file-entries = rw (entries-next f done, map-append)
+    file-entries : entriesTo f done ++ blockEntries (blockAt f (done + 1)) ≡ entriesTo f (done + 1)
+    file-entries = sym (entries-next f done)
 
     pub walk-next : (next : Played) → next ≡ playedFrom played (partEntries part (length part / 12))
         → (back : List ℕ) → back ≡ recordsFrom played (partEntries part (length part / 12)) (take (length rest - 12 * i) (drop (12 * i) rest))
@@ -179,13 +167,12 @@ module _ {f rest₀ : List ℕ} {last : ℕ} {from : Played} {rest : List ℕ} {
           place = rw part-count (sym next-count);
           state = goes ∙ rw (entries-are, h .state, played-append) (ap (playedFrom from) file-entries);
           log =
-              records-grow from (map asked (entriesTo f done)) (map asked (blockEntries (blockAt f (done + 1)))) rest₀ rest back (12 * i)
-              (rw (length-map, h .place)) (h .log) (writes ∙ rw (entries-are, h .state))
+              records-grow from (entriesTo f done) (blockEntries (blockAt f (done + 1))) rest₀ rest back (12 * i)
+              (rw (h .place)) (h .log) (writes ∙ rw (entries-are, h .state))
               ∙ ap (λ (es : List Entry). recordsFrom from es rest₀) file-entries;
         }
 
-  pub walk-end : last ≤ done → (played ≡ playedFrom from (askedOf f)) × (rest ≡ recordsFrom from (askedOf f) rest₀)
-  unfolding askedOf
+  pub walk-end : last ≤ done → (played ≡ playedFrom from (fileEntries f)) × (rest ≡ recordsFrom from (fileEntries f) rest₀)
   walk-end l =
       let top : done ≡ blocksAfter f = omega (arith, h .within, h .blocks, l) in
       (h .state ∙ rw top, h .log ∙ rw top)

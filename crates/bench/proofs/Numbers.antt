@@ -1,20 +1,20 @@
 -- The number and the block that a run returns are small: together they fit the C number.
-use Prim.Native.Nat.{ℕ, zero, suc, _+_, _-_, _*_, _/_, _≤_, _<_}
+use Prim.Native.Nat.{ℕ, zero, suc, _+_, _-_, _≤_}
 use mathlib.Core.Path.{_≡_, refl}
 use mathlib.Core.Bool.{Bool, true, false, cond, not}
 use mathlib.Core.List.{List}
 use native.Mathlib.Omega.{arith}
 use lib.Dec.{leb, eqb}
 use lib.ListN.{length}
-use Rattle.schedule.specs.Check.{checkFine, placeFine, blockNumber}
-use Rattle.schedule.specs.Block0.{headFine, headNumber}
+use Rattle.schedule.specs.Check.{checkFine, placeFine}
+use Rattle.schedule.specs.Block0.{firstFine, firstNumber}
 use Rattle.schedule.specs.Later.{laterFine, laterNumber}
-use Rattle.schedule.specs.File.{lengthFine, blockAt, blocksAfter, found, inTurn, said, reading}
+use Rattle.schedule.specs.File.{lengthFine, blockAt, blocksAfter, found, inTurn, acceptedAs, reading}
 use Rattle.schedule.specs.declared.Reading.{Reading}
 use Rattle.schedule.specs.declared.Reading.the-variants.{Refused, Accepted}
 use Rattle.schedule.proofs.Accepted.{length-blocks}
 use Rattle.log.specs.Log.{logLength}
-use Rattle.bench.specs.Bench.{ranBy, ranOf, lastState, turned}
+use Rattle.bench.specs.Bench.{ranBy, ranOf, lastState, ranNot}
 use Rattle.bench.specs.declared.Ran.{Ran}
 
 abbrev Low : Reading → Type 0
@@ -43,25 +43,25 @@ turn-low f k (suc n) rest l low =
     (turn-low f (k + 1) n rest (omega arith) low)
 
 reading-low : (f : List ℕ) → Low (reading f)
-unfolding reading headNumber
+unfolding reading firstNumber
 reading-low f = go (lengthFine (length f)) refl
   where
     b : List ℕ
     b = blockAt f 0
 
     go : (t : Bool) → lengthFine (length f) ≡ t
-        → Low (cond (not t) (Refused 1 0) (found (headNumber (blockAt f 0) (blocksAfter f)) 0 (inTurn f 1 (blocksAfter f) (said f))))
+        → Low (cond (not t) (Refused 1 0) (found (firstNumber (blockAt f 0) (blocksAfter f)) 0 (inTurn f 1 (blocksAfter f) (acceptedAs f))))
     go true e =
-        found-low (headNumber b (blocksAfter f)) 0 (inTurn f 1 (blocksAfter f) (said f))
-        (number-low (checkFine b) (placeFine b 0) (headFine b (blocksAfter f)) 4 (omega arith)) (omega arith)
-        (turn-low f 1 (blocksAfter f) (said f) (omega (arith, length-blocks (length f) e .1)) tt)
+        found-low (firstNumber b (blocksAfter f)) 0 (inTurn f 1 (blocksAfter f) (acceptedAs f))
+        (number-low (checkFine b) (placeFine b 0) (firstFine b (blocksAfter f)) 4 (omega arith)) (omega arith)
+        (turn-low f 1 (blocksAfter f) (acceptedAs f) (omega (arith, length-blocks (length f) e .1)) tt)
     go false e = (omega arith, omega arith)
 
 pub ran-low : (f log : List ℕ) → (ranOf f log .number ≤ 6) × (ranOf f log .block ≤ 127)
 unfolding ranOf
 ran-low f log = by (reading f) (reading-low f)
   where
-    room : (c : ℕ) (r : Ran) → (r .number ≤ 6) × (r .block ≤ 127) → (b : Bool) → (cond b r (turned 6 0) .number ≤ 6) × (cond b r (turned 6 0) .block ≤ 127)
+    room : (c : ℕ) (r : Ran) → (r .number ≤ 6) × (r .block ≤ 127) → (b : Bool) → (cond b r (ranNot 6 0) .number ≤ 6) × (cond b r (ranNot 6 0) .block ≤ 127)
     room c r h true = h
     room c r h false = (omega arith, omega arith)
 

@@ -1,5 +1,5 @@
 -- One turn of the loop over a part's entries: what the loop keeps, and why a turn keeps it.
-use Prim.Native.Nat.{ℕ, zero, suc, _+_, _-_, _*_, _≤_, _<_}
+use Prim.Native.Nat.{ℕ, _+_, _-_, _*_, _≤_, _<_}
 use mathlib.Core.Path.{_≡_, refl, sym, ap, _∙_}
 use mathlib.Core.Bool.{Bool, true, false, cond, not}
 use mathlib.Core.List.{List, [], _∷_, _++_, map, map-append}
@@ -7,61 +7,54 @@ use native.Mathlib.Numerals.{add-one}
 use native.Mathlib.Omega.{arith}
 use lib.Dec.{ltb}
 use lib.ListN.{length, take, drop, length-append, length-drop, length-map}
-use borrow.Author.Tests.{ltb-true}
+use Rattle.numbers.specs.declared.Process.{Process}
+use Rattle.numbers.specs.declared.Sequence.{Sequence}
+use Rattle.numbers.specs.declared.Version.{Version}
+use Rattle.numbers.proofs.Below.{listed-length}
 use Rattle.step.specs.Number.{sameTag}
-use Rattle.step.specs.declared.Sequence.{Sequence}
-use Rattle.step.specs.declared.Version.{Version}
+use Rattle.step.specs.Outcomes.{toldOf}
+use Rattle.step.specs.declared.Entry.{Entry}
+use Rattle.step.specs.declared.Kind.{Kind}
+use Rattle.step.specs.declared.Kind.the-variants.{Ask, Step}
 use Rattle.step.specs.declared.Stepped.{Stepped}
-use Rattle.step.specs.declared.Outcome.the-variants.{NoProcess}
+use Rattle.step.specs.declared.Outcome.{Outcome}
 use Rattle.machine.specs.State.{rowAt, recordAt}
-use Rattle.machine.specs.Entry.{withStepped}
-use Rattle.machine.specs.Run.{Entry, Note, played, noteOf, noteBy, notes, after, changeCount, stepsBy}
-use Rattle.machine.specs.Parts.{seatOf, rowGiven, kindParts, playedParts}
+use Rattle.machine.specs.Entry.{rowGiven, withEntry, seatOf, playedParts}
+use Rattle.machine.specs.Frame.{Ready}
+use Rattle.machine.specs.Run.{Note, played, noteOf, notes, after, changeCount, stepsBy}
 use Rattle.machine.specs.declared.State.{State}
-use Rattle.machine.specs.declared.Kind.{Kind}
-use Rattle.machine.specs.declared.Kind.the-variants.{Load, Store, Check, Step}
-use Rattle.machine.proofs.Runs.{Ready, ready-after, after-append, notes-append, count-append, size-kept, notes-length, count-most}
+use Rattle.machine.specs.declared.Answer.{Answer}
+use Rattle.machine.proofs.RunLaws.{ready-after, after-append, notes-append, count-append, size-kept, notes-length, count-most}
 use Rattle.machine.proofs.PartsOfRun.{seat, given, played-by-parts, seat-within, given-within}
 use Rattle.schedule.specs.Later.{entryAt}
-use Rattle.schedule.specs.Bytes.{listBelow}
-use Rattle.log.specs.Bytes.{laid}
-use Rattle.log.specs.Log.{recordOf, recordsOf}
+use Rattle.log.specs.Log.{laid, recordOf, recordsOf}
 use Rattle.log.specs.declared.Note as log
-use Rattle.step.specs.Outcomes.{toldOf}
-use Rattle.step.specs.declared.Outcome.{Outcome}
-use Rattle.machine.specs.declared.Answer.{Answer}
 use Rattle.log.proofs.Laws.{record-length, records-length, records-more, grown}
-use Rattle.schedule.specs.declared.Entry as file
-use Rattle.bench.specs.Asked.{entryBy, asked, inLog, recordFrom, partEntries}
-use Rattle.bench.specs.Play.{playedFrom, recordsFrom}
-use Rattle.bench.specs.declared.Played.{Played}
+use Rattle.bench.specs.Play.{inLog, recordFrom, partEntries, playedFrom, recordsFrom}
 
 -- one entry more
-pub entries-more : (part : List ℕ) (j : ℕ) → partEntries part (j + 1) ≡ partEntries part j ++ (asked (entryAt part j) ∷ [])
+pub entries-more : (part : List ℕ) (j : ℕ) → partEntries part (j + 1) ≡ partEntries part j ++ (entryAt part j ∷ [])
 unfolding partEntries
 entries-more part j = rw add-one
 
 pub entries-length : (part : List ℕ) (j : ℕ) → length (partEntries part j) ≡ j
 unfolding partEntries
-entries-length part zero = refl
-entries-length part (suc j) = rw (length-append) (omega (arith, entries-length part j))
+entries-length part j = listed-length j (λ j. entryAt part j)
 
 -- The record that is written is the note of the run: where the process is not there, no steps are counted whatever the place.
 module _ (st : State) (e : Entry) (h : Ready st) where
   abbrev left : Stepped
-  left = playedParts (st .n) (st .s) (e .process) (st .x) (recordAt st (seat st e)) (rowAt st (given st e)) (e .kind)
+  left = playedParts (st .n) (st .s) (e .process) (st .x) (recordAt st (seat st e .0)) (rowAt st (given st e .0)) (e .kind)
 
   steps-same : (b : Bool) (kind : Kind) → ltb (e .process .0) (st .n) ≡ b
-      → stepsBy (recordAt st (cond b (e .process .0) 0) .place) kind (playedParts (st .n) (st .s) (e .process) (st .x) (recordAt st (cond b (e .process .0) 0)) (rowAt st (given st e)) kind .outcome)
-      ≡ stepsBy (recordAt st (e .process .0) .place) kind (playedParts (st .n) (st .s) (e .process) (st .x) (recordAt st (cond b (e .process .0) 0)) (rowAt st (given st e)) kind .outcome)
+      → stepsBy (recordAt st (cond {A = Process} b (e .process) (record { 0 = 0 }) .0) .place) kind (playedParts (st .n) (st .s) (e .process) (st .x) (recordAt st (cond {A = Process} b (e .process) (record { 0 = 0 }) .0)) (rowAt st (given st e .0)) kind .outcome)
+      ≡ stepsBy (recordAt st (e .process .0) .place) kind (playedParts (st .n) (st .s) (e .process) (st .x) (recordAt st (cond {A = Process} b (e .process) (record { 0 = 0 }) .0)) (rowAt st (given st e .0)) kind .outcome)
   unfolding playedParts
   steps-same true kind t = refl
-  steps-same false Load t = refl
-  steps-same false (Store v) t = refl
-  steps-same false Check t = refl
+  steps-same false (Ask request) t = refl
   steps-same false Step t = rw t
 
-  pub note-written : inLog (noteOf st e) ≡ recordFrom (e .process .0) (e .kind) (recordAt st (seat st e) .place) (left .outcome)
+  pub note-written : inLog (noteOf st e) ≡ recordFrom (e .process .0) (e .kind) (recordAt st (seat st e .0) .place) (left .outcome)
   note-written =
       let out : played st e .outcome ≡ left .outcome = ap (λ (a : Answer). a .outcome) (played-by-parts st e h) in
       ap (λ (o : Outcome). recordFrom (e .process .0) (e .kind) (recordAt st (e .process .0) .place) o) out
@@ -78,7 +71,7 @@ module _ (st : State) (e : Entry) (h : Ready st) where
           }
 
   -- where an entry leads, and whether X changed
-  pub state-left : played st e .state ≡ withStepped st (seat st e) (given st e) left .state
+  pub state-left : played st e .state ≡ withEntry st (seat st e) (given st e) left
   state-left = ap (λ (a : Answer). a .state) (played-by-parts st e h)
 
   pub change-counted : changeCount (noteOf st e ∷ []) ≡ cond (not (sameTag (st .x) (left .x))) 1 0
@@ -109,7 +102,7 @@ module _ (part : List ℕ) (st₀ : State) (j : ℕ) where
   es = partEntries part j
 
   abbrev next : Entry
-  next = asked (entryAt part j)
+  next = entryAt part j
 
   after-more : after st₀ (partEntries part (j + 1)) ≡ played (after st₀ es) next .state
   unfolding after
@@ -135,13 +128,13 @@ module _ {part rest₀ : List ℕ} {n : ℕ} {s : Sequence} {end : ℕ} {st₀ :
 
   -- The turn itself, said of what the loop's calls gave: the entry, its seat and row, what it left, its record, the count, the log.
   pub turn-next : j < end
-      → (e : Entry) → e ≡ asked (entryAt part j)
-      → (i q : ℕ) → i ≡ seatOf n (e .process) → q ≡ rowGiven i (recordAt st i) (e .kind)
-      → (m : Stepped) → m ≡ playedParts n s (e .process) (st .x) (recordAt st i) (rowAt st q) (e .kind)
-      → (note : log.Note) → note ≡ recordFrom (e .process .0) (e .kind) (recordAt st i .place) (m .outcome)
+      → (e : Entry) → e ≡ entryAt part j
+      → (i q : Process) → i ≡ seatOf n (e .process) → q ≡ rowGiven i (recordAt st (i .0)) (e .kind)
+      → (m : Stepped) → m ≡ playedParts n s (e .process) (st .x) (recordAt st (i .0)) (rowAt st (q .0)) (e .kind)
+      → (note : log.Note) → note ≡ recordFrom (e .process .0) (e .kind) (recordAt st (i .0) .place) (m .outcome)
       → (changes′ : Version) → changes′ .0 ≡ changes .0 + cond (not (sameTag (st .x) (m .x))) 1 0
       → (back : List ℕ) → back ≡ laid (recordOf note) (take (length rest - 12 * j) (drop (12 * j) rest))
-      → Turn part rest₀ n s end st₀ changes₀ (take (12 * j) rest ++ (back ++ drop (length rest - 12 * j) (drop (12 * j) rest))) (withStepped st i q m .state) changes′ (j + 1)
+      → Turn part rest₀ n s end st₀ changes₀ (take (12 * j) rest ++ (back ++ drop (length rest - 12 * j) (drop (12 * j) rest))) (withEntry st i q m) changes′ (j + 1)
   turn-next l e is i q at row m goes note says changes′ counts back laid′ =
       record {
         within = omega arith;
@@ -159,9 +152,9 @@ module _ {part rest₀ : List ℕ} {n : ℕ} {s : Sequence} {end : ℕ} {st₀ :
       seat-is = rw size-now at
 
       row-is : q ≡ given st e
-      row-is = row ∙ ap (λ (k : ℕ). rowGiven k (recordAt st k) (e .kind)) seat-is
+      row-is = row ∙ ap (λ (k : Process). rowGiven k (recordAt st (k .0)) (e .kind)) seat-is
 
-      left-is : m ≡ playedParts (st .n) (st .s) (e .process) (st .x) (recordAt st (seat st e)) (rowAt st (given st e)) (e .kind)
+      left-is : m ≡ playedParts (st .n) (st .s) (e .process) (st .x) (recordAt st (seat st e .0)) (rowAt st (given st e .0)) (e .kind)
       left-is = cc (goes, size-now, last-now, seat-is, row-is)
 
       done : List ℕ
@@ -170,7 +163,7 @@ module _ {part rest₀ : List ℕ} {n : ℕ} {s : Sequence} {end : ℕ} {st₀ :
       now-after : after st₀ (partEntries part (j + 1)) ≡ played st e .state
       now-after = rw (h .state, is) (after-more part st₀ j)
 
-      note-now : noteOf (after st₀ (partEntries part j)) (asked (entryAt part j)) ≡ noteOf st e
+      note-now : noteOf (after st₀ (partEntries part j)) (entryAt part j) ≡ noteOf st e
       note-now = rw (h .state, is)
 
       total : changeCount (notes st₀ (partEntries part (j + 1))) ≡ changeCount (notes st₀ (partEntries part j)) + cond (not (sameTag (st .x) (m .x))) 1 0
@@ -188,10 +181,10 @@ module _ {part rest₀ : List ℕ} {n : ℕ} {s : Sequence} {end : ℕ} {st₀ :
       place = omega arith
 
   -- seat and row are within the 16, and the count within its type
-  pub seat-there : (e : Entry) (i : ℕ) → i ≡ seatOf n (e .process) → i < 16
+  pub seat-there : (e : Entry) (i : Process) → i ≡ seatOf n (e .process) → i .0 < 16
   seat-there e i at = rw (at, ← size-now) (seat-within st e ready-now)
 
-  pub row-there : (e : Entry) (i q : ℕ) → i ≡ seatOf n (e .process) → q ≡ rowGiven i (recordAt st i) (e .kind) → q < 16
+  pub row-there : (e : Entry) (i q : Process) → i ≡ seatOf n (e .process) → q ≡ rowGiven i (recordAt st (i .0)) (e .kind) → q .0 < 16
   row-there e i q at row = rw (row, at, ← size-now) (given-within st e ready-now)
 
   pub count-low : j < end → changes .0 < 4294967295
@@ -217,8 +210,3 @@ module _ {part rest₀ : List ℕ} {n : ℕ} {s : Sequence} {end : ℕ} {st₀ :
 
       played-is : record { state = st; changes = changes } ≡ playedFrom (record { state = st₀; changes = changes₀ }) (partEntries part end)
       played-is = rw (← top) (λ k. record { state = h .state k; changes = record { 0 = h .count k } })
-
--- The entry that the loop reads, by its process and its kind.
-pub entry-read : (part : List ℕ) (j : ℕ) (x : file.Entry) → x ≡ entryAt part j → (p : ℕ) → p ≡ asked x .process .0 → (kind : Kind) → kind ≡ asked x .kind
-    → entryBy p kind ≡ asked (entryAt part j)
-entry-read part j x e p f kind g = rw (f, g, e)

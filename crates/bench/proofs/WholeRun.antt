@@ -1,34 +1,26 @@
 -- The whole run of an accepted file: its start is ready, its count fits, and head, records and the rest of the log come together.
-use Prim.Native.Nat.{ℕ, zero, suc, _+_, _-_, _*_, _≤_, _<_}
-use mathlib.Core.Path.{_≡_, refl, sym, ap, subst, _∙_}
+use Prim.Native.Nat.{ℕ, _+_, _-_, _*_, _≤_}
+use mathlib.Core.Path.{_≡_, sym, ap, _∙_}
 use mathlib.Core.Bool.{Bool, true, cond}
-use mathlib.Core.List.{List, [], _∷_, _++_, map}
+use mathlib.Core.List.{List, _++_, map}
 use native.Mathlib.Omega.{arith}
-use lib.ListN.{length, take, drop, length-append, length-drop, length-map}
+use lib.ListN.{length, take, drop, length-append, length-drop}
 use lib.Seq.{take-at, drop-at, drop-drop}
-use Rattle.step.specs.declared.Version.{Version}
-use Rattle.machine.specs.State.{inRange}
+use Rattle.numbers.specs.Range.{inRange}
 use Rattle.machine.specs.Opening.{firstState, zeroState, startOf}
-use Rattle.machine.specs.Run.{Entry, Note, notes, after, changeCount}
-use Rattle.machine.specs.declared.State.{State}
+use Rattle.machine.specs.Frame.{Ready}
+use Rattle.machine.specs.Run.{Note, notes, changeCount}
 use Rattle.machine.specs.declared.Started.{Started}
 use Rattle.machine.specs.declared.Start.{Start}
-use Rattle.machine.proofs.Runs.{Ready, ready-start, notes-length, count-most}
+use Rattle.machine.proofs.RunLaws.{ready-start, notes-length, count-most}
 use Rattle.schedule.specs.File.{fileEntries, reading, isAccepted}
-use Rattle.schedule.specs.declared.Reading.{Reading}
 use Rattle.schedule.specs.declared.Reading.the-variants.{Accepted}
 use Rattle.schedule.proofs.Accepted.{accepted-answer, accepted-bound, accepted-start}
-use Rattle.log.specs.Bytes.{laid}
-use Rattle.log.specs.Log.{headOf, recordsOf, logLength}
+use Rattle.log.specs.Log.{laid, headOf, recordsOf, logLength}
 use Rattle.log.proofs.Laws.{head-length, laid-fits, tail-given, tail-back}
-use Rattle.bench.specs.Asked.{asked, inLog, askedOf}
-use Rattle.bench.specs.Play.{playedFrom, recordsFrom}
+use Rattle.bench.specs.Play.{inLog, playedFrom, recordsFrom}
 use Rattle.bench.specs.Bench.{startState, notesOf, lastState, written}
 use Rattle.bench.specs.declared.Played.{Played}
-
-pub asked-length : (f : List ℕ) → length (askedOf f) ≡ length (fileEntries f)
-unfolding askedOf
-asked-length f = length-map (fileEntries f) asked
 
 module _ (f : List ℕ) (n s v c : ℕ) (is : reading f ≡ Accepted n s v c) where
   pub accepted : isAccepted (reading f) ≡ true
@@ -66,12 +58,12 @@ module _ (f : List ℕ) (n s v c : ℕ) (is : reading f ≡ Accepted n s v c) wh
     abbrev from : Played
     from = record { state = started .state; changes = record { 0 = 0 } }
 
-    pub count-fits : (played : Played) → played ≡ playedFrom from (askedOf f) → played .changes .0 ≤ 5334
+    pub count-fits : (played : Played) → played ≡ playedFrom from (fileEntries f) → played .changes .0 ≤ 5334
     unfolding playedFrom
     count-fits played goes =
-        let most = count-most (notes (started .state) (askedOf f)) in
-        let long = notes-length (started .state) (askedOf f) in
-        rw goes (omega (arith, most, long, asked-length f, entry-count, few-entries))
+        let most = count-most (notes (started .state) (fileEntries f)) in
+        let long = notes-length (started .state) (fileEntries f) in
+        rw goes (omega (arith, most, long, entry-count, few-entries))
 
     module _ (log : List ℕ) (room : logLength c ≤ length log) (first : List ℕ) (lays : first ≡ laid (headOf c 0 n) log) where
       head-there : first ≡ headOf c 0 n ++ drop 12 log
@@ -80,14 +72,14 @@ module _ (f : List ℕ) (n s v c : ℕ) (is : reading f ≡ Accepted n s v c) wh
       pub rest-there : 12 * length (fileEntries f) ≤ length first - 12
       rest-there = rw (head-there, length-append, head-length c 0 n, length-drop) (omega (arith, entry-count))
 
-      module _ (played : Played) (goes : played ≡ playedFrom from (askedOf f)) (back : List ℕ)
-          (writes : back ≡ recordsFrom from (askedOf f) (take (length first - 12) (drop 12 first))) where
+      module _ (played : Played) (goes : played ≡ playedFrom from (fileEntries f)) (back : List ℕ)
+          (writes : back ≡ recordsFrom from (fileEntries f) (take (length first - 12) (drop 12 first))) where
         pub last-is : played .state ≡ lastState f n s v
         unfolding playedFrom lastState
         last-is = rw (goes, begun)
 
         abbrev behind : List ℕ
-        behind = recordsOf (map inLog (notesOf f n s v)) ++ drop (12 + 12 * length (askedOf f)) log
+        behind = recordsOf (map inLog (notesOf f n s v)) ++ drop (12 + 12 * length (fileEntries f)) log
 
         records-there : take 12 first ++ (back ++ drop (length first - 12) (drop 12 first)) ≡ headOf c 0 n ++ behind
         unfolding recordsFrom notesOf
@@ -110,11 +102,11 @@ module _ (f : List ℕ) (n s v c : ℕ) (is : reading f ≡ Accepted n s v c) wh
             ws : List Note
             ws = notesOf f n s v
 
-            long : length ws ≡ length (askedOf f)
-            long = notes-length (startState n s v) (askedOf f)
+            long : length ws ≡ length (fileEntries f)
+            long = notes-length (startState n s v) (fileEntries f)
 
             counted : c ≡ length ws
-            counted = entry-count ∙ sym (long ∙ asked-length f)
+            counted = entry-count ∙ sym long
 
             none : 0 + changeCount ws ≡ changeCount ws
             none = omega arith

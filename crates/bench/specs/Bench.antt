@@ -1,17 +1,17 @@
 -- The whole run of a file with a lent log: what is returned, and what every byte of the log then is.
 use Prim.Native.Nat.{ℕ, _+_, _*_}
 use mathlib.Core.Bool.{cond}
-use mathlib.Core.List.{List, [], _++_, map}
+use mathlib.Core.List.{List, _++_, map}
 use lib.Dec.{leb}
 use lib.ListN.{length, drop}
-use Rattle.schedule.specs.File.{reading}
+use Rattle.schedule.specs.File.{reading, fileEntries}
 use Rattle.schedule.specs.declared.Reading.{Reading}
 use Rattle.schedule.specs.declared.Reading.the-variants.{Refused, Accepted}
 use Rattle.machine.specs.Opening.{startOf, zeroState}
 use Rattle.machine.specs.Run.{Note, notes, after, changeCount}
 use Rattle.machine.specs.declared.State.{State}
 use Rattle.log.specs.Log.{headOf, recordsOf, logLength}
-use Rattle.bench.specs.Asked.{askedOf, inLog}
+use Rattle.bench.specs.Play.{inLog}
 use Rattle.bench.specs.declared.Ran.{Ran}
 
 -- the state that a file's run starts from: the start of its N, S and V
@@ -20,11 +20,11 @@ startState n s v = startOf n (record { 0 = s }) v .state
 
 -- what the log says of each entry of a file
 unfoldable pub notesOf : List ℕ → ℕ → ℕ → ℕ → List Note
-notesOf f n s v = notes (startState n s v) (askedOf f)
+notesOf f n s v = notes (startState n s v) (fileEntries f)
 
 -- the state after them
 unfoldable pub lastState : List ℕ → ℕ → ℕ → ℕ → State
-lastState f n s v = after (startState n s v) (askedOf f)
+lastState f n s v = after (startState n s v) (fileEntries f)
 
 -- "First 12 bytes: entry count .., how often X has changed .., N .. Then the records .. Bytes of the lent log past the last record
 -- keep what they held."
@@ -32,13 +32,13 @@ abbrev pub written : List Note → ℕ → List ℕ → List ℕ
 written ws n log = headOf (length ws) (changeCount ws) n ++ (recordsOf (map inLog ws) ++ drop (logLength (length ws)) log)
 
 -- turned away: a number, a block, and a state of zeros
-abbrev pub turned : ℕ → ℕ → Ran
-turned number block = record { number = number; block = block; state = zeroState }
+abbrev pub ranNot : ℕ → ℕ → Ran
+ranNot number block = record { number = number; block = block; state = zeroState }
 
 -- the file's refusals, "then 6": "lent log shorter than 12 + 12 times the entries"
 abbrev pub ranBy : List ℕ → List ℕ → Reading → Ran
-ranBy f log (Refused number block) = turned number block
-ranBy f log (Accepted n s v c) = cond (leb (logLength c) (length log)) (record { number = 0; block = 0; state = lastState f n s v }) (turned 6 0)
+ranBy f log (Refused number block) = ranNot number block
+ranBy f log (Accepted n s v c) = cond (leb (logLength c) (length log)) (record { number = 0; block = 0; state = lastState f n s v }) (ranNot 6 0)
 
 -- "number, that block; log untouched"
 abbrev pub logBy : List ℕ → List ℕ → Reading → List ℕ

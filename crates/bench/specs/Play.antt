@@ -2,10 +2,37 @@
 use Prim.Native.Nat.{ℕ, _+_, _*_}
 use mathlib.Core.List.{List, _++_, map}
 use lib.ListN.{length, drop}
-use Rattle.machine.specs.Run.{Entry, Note, notes, after, changeCount}
+use Rattle.numbers.specs.Below.{listBelow}
+use Rattle.step.specs.Outcomes.{toldOf}
+use Rattle.step.specs.declared.Entry.{Entry}
+use Rattle.step.specs.declared.Kind.{Kind}
+use Rattle.step.specs.declared.Place.{Place}
+use Rattle.step.specs.declared.Outcome.{Outcome}
+use Rattle.machine.specs.Run.{stepsBy, notes, after, changeCount}
+use Rattle.machine.specs.Run as machine
+use Rattle.schedule.specs.Later.{entryAt}
 use Rattle.log.specs.Log.{recordsOf}
-use Rattle.bench.specs.Asked.{inLog}
+use Rattle.log.specs.declared.Note.{Note}
 use Rattle.bench.specs.declared.Played.{Played}
+
+-- "in order: outcome, process, own steps of this call so far with this one .., mark, value"
+abbrev pub inLog : machine.Note → Note
+inLog w = record { outcome = w .outcome; process = w .process; steps = w .steps; mark = w .mark; value = w .value }
+
+-- the record of an entry of process p, from the place before it and its outcome
+abbrev pub recordFrom : ℕ → Kind → Place → Outcome → Note
+recordFrom p kind place outcome =
+    record {
+      outcome = toldOf outcome .number;
+      process = p;
+      steps = stepsBy place kind outcome;
+      mark = toldOf outcome .mark;
+      value = toldOf outcome .value;
+    }
+
+-- the first n entries that stand in a part of twelve bytes each
+unfoldable pub partEntries : List ℕ → ℕ → List Entry
+partEntries part n = listBelow n (λ j. entryAt part j)
 
 unfoldable pub playedFrom : Played → List Entry → Played
 playedFrom from es =

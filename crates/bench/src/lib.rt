@@ -1,6 +1,6 @@
 // The bench: a schedule file and a lent log in, a number and every byte of the log out.
 use machine::State;
-use step::Version;
+use numbers::Version;
 
 pub mod note;
 mod part;

@@ -1,44 +1,18 @@
-// One entry of a file as an entry of the machine, and what came of it as a record of the log.
+// What came of an entry as a record of the log, and the count of changes.
 ghost use mathlib.Core.Path.{_≡_};
 ghost use mathlib.Core.Bool.{cond, not};
 ghost use Prim.Native.Nat.{_+_, _<_};
 ghost use Rattle.step.specs.Number.{sameTag};
-ghost use Rattle.bench.specs.Asked.{asked, recordFrom};
+ghost use Rattle.bench.specs.Play.{recordFrom};
 use log::Note;
-use machine::Kind;
 use machine::parts::steps_by;
-use schedule::Entry;
+use numbers::Version;
+use step::Kind;
 use step::Outcome;
 use step::Place;
 use step::Tag;
-use step::Version;
 use step::answer::tell;
 use step::number::same_tag;
-
-// The process that an entry names.
-pub fn process_of(entry: Entry) -> u8
-    ensures { λ r. ⌜ r ≡ asked entry .process .0 ⌝ }
-{
-    match entry {
-        Entry::Load(p) => p,
-        Entry::Store(p, _) => p,
-        Entry::Check(p) => p,
-        Entry::Step(p) => p,
-        Entry::Nothing => 255,
-    }
-}
-
-pub fn kind_of(entry: Entry) -> Kind
-    ensures { λ r. ⌜ r ≡ asked entry .kind ⌝ }
-{
-    match entry {
-        Entry::Load(_) => Kind::Load,
-        Entry::Store(_, v) => Kind::Store(v),
-        Entry::Check(_) => Kind::Check,
-        Entry::Step(_) => Kind::Step,
-        Entry::Nothing => Kind::Step,
-    }
-}
 
 // The log's record of an entry that stood before `place` and came to `outcome`.
 pub fn note_of(process: u8, kind: Kind, place: Place, outcome: Outcome) -> Note

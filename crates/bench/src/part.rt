@@ -1,23 +1,17 @@
 // The entries of one part of a file, played one after another on a state that the loop keeps itself.
 ghost use mathlib.Core.Path.{_≡_};
-ghost use mathlib.Core.List.{_++_};
 ghost use Prim.Native.Nat.{_+_, _*_, _/_, _≤_, _<_};
-ghost use lib.ListN.{length, drop};
-ghost use Rattle.machine.proofs.Runs.{Ready};
-ghost use Rattle.bench.specs.Asked.{partEntries};
-ghost use Rattle.bench.specs.Play.{playedFrom, recordsFrom};
+ghost use lib.ListN.{length};
+ghost use Rattle.machine.specs.Frame.{Ready};
+ghost use Rattle.bench.specs.Play.{partEntries, playedFrom, recordsFrom};
 use crate::Played;
 use crate::note::count;
-use crate::note::kind_of;
 use crate::note::note_of;
-use crate::note::process_of;
 use log::write::write_record;
 use machine::parts::play_parts;
 use machine::parts::row_given;
 use machine::parts::seat_of;
 use schedule::entry_at;
-use step::Process;
-use step::Version;
 
 // Plays the whole entries of a part and writes their records into the front of the rest of the log.
 pub(crate) fn play_part(part: &[u8], rest: &mut [u8], from: Played) -> Played
@@ -32,14 +26,14 @@ pub(crate) fn play_part(part: &[u8], rest: &mut [u8], from: Played) -> Played
     let mut j = 0;
     while j < end {
         let entry = entry_at(part, j);
-        let process = process_of(entry);
-        let kind = kind_of(entry);
-        let place_of = process as usize;
-        let p = Process(place_of);
-        let i = seat_of(n, p);
+        let p = entry.process;
+        let kind = entry.kind;
+        let seat = seat_of(n, p);
+        let i = seat.0;
         let x = st.x;
         let own = st.records[i];
-        let q = row_given(i, own, kind);
+        let given = row_given(seat, own, kind);
+        let q = given.0;
         let row = st.rows[q];
         let m = play_parts(n, s, p, x, own, row, kind);
         let now = m.x;
@@ -50,7 +44,8 @@ pub(crate) fn play_part(part: &[u8], rest: &mut [u8], from: Played) -> Played
         st.rows[q] = wrote;
         st.records[i] = left;
         let place = own.place;
-        let note = note_of(process, kind, place, outcome);
+        let byte = p.0 as u8;
+        let note = note_of(byte, kind, place, outcome);
         let at = 12 * j;
         write_record(&mut rest[at..], note);
         changes = count(changes, x, now);

@@ -4,10 +4,9 @@ ghost use mathlib.Core.Bool.{true};
 ghost use Prim.Native.Nat.{_+_, _*_, _≤_, _<_};
 ghost use lib.ListN.{length};
 ghost use Rattle.schedule.specs.File.{reading, isAccepted, fileEntries};
-ghost use Rattle.machine.proofs.Runs.{Ready};
-ghost use Rattle.bench.specs.Asked.{askedOf};
+ghost use Rattle.machine.specs.Frame.{Ready};
 ghost use Rattle.bench.specs.Play.{playedFrom, recordsFrom};
-ghost use Rattle.bench.specs.Bench.{turned, notesOf, lastState, written, ranBy, logBy, ranOf, logAfter, cNumber};
+ghost use Rattle.bench.specs.Bench.{ranNot, notesOf, lastState, written, ranBy, logBy, ranOf, logAfter, cNumber};
 use crate::Played;
 use crate::Ran;
 use crate::part::play_part;
@@ -16,17 +15,17 @@ ghost use Rattle.log.specs.Log.{logLength};
 use machine::State;
 use machine::opening::start;
 use machine::opening::zero_state;
+use numbers::Sequence;
+use numbers::Version;
 use schedule::Reading;
 use schedule::block_of;
 use schedule::read_file;
 use schedule::used_entries;
-use step::Sequence;
-use step::Version;
 
 // The blocks after block 0 in turn, each through the part with its entries.
 fn play_blocks(file: &[u8], rest: &mut [u8], from: Played) -> Played
     requires { ⌜ (isAccepted (reading (now file)) ≡ true) × (Ready (from .state)) × (12 * length (fileEntries (now file)) ≤ length (now rest)) × (from .changes .0 + length (fileEntries (now file)) < 4294967295) ⌝ }
-    ensures { λ r. ⌜ (r ≡ playedFrom from (askedOf (now (file .entry)))) × (now (rest .exit) ≡ recordsFrom from (askedOf (now (file .entry))) (now (rest .entry))) ⌝ }
+    ensures { λ r. ⌜ (r ≡ playedFrom from (fileEntries (now (file .entry)))) × (now (rest .exit) ≡ recordsFrom from (fileEntries (now (file .entry))) (now (rest .entry))) ⌝ }
 {
     let after = file.len() / 512 - 1;
     let mut played = from;
@@ -47,7 +46,7 @@ fn play_blocks(file: &[u8], rest: &mut [u8], from: Played) -> Played
 }
 
 fn turn_away(number: usize, block: usize) -> Ran
-    ensures { λ r. ⌜ r ≡ turned number block ⌝ }
+    ensures { λ r. ⌜ r ≡ ranNot number block ⌝ }
 {
     let state = zero_state();
     Ran {
@@ -71,10 +70,10 @@ fn run_entries(file: &[u8], log: &mut [u8], n: u8, s: u64, v: u64, entries: usiz
         changes: Version(0),
     };
     let count = entries as u32;
-    lay_head(log, count, 0, n);
+    lay_head(log, count, Version(0), n);
     let played = play_blocks(file, &mut log[12..], from);
     let last = played.state;
-    let changes = played.changes.0 as u32;
+    let changes = played.changes;
     lay_head(log, count, changes, n);
     last
 }

@@ -4,44 +4,47 @@
 use Prim.Native.Nat.{ℕ}
 use mathlib.Core.Path.{_≡_, refl}
 use mathlib.Core.List.{List, [], _∷_, _++_, map}
-use Rattle.machine.specs.Table.{Line, asks, goes, gives, saysNo, turned, LL, SCtwo, SC, SCfails, behind}
-use Rattle.machine.specs.declared.Kind.the-variants as kind
+use Rattle.step.specs.declared.Kind.the-variants.{Ask, Step}
+use Rattle.step.specs.declared.Request.the-variants.{Load, Store, Check}
+use Rattle.machine.specs.Table.{Line, asks, goes, gives, saysNo, away, LL, SCtwo, SC, SCfails, behind}
+use Rattle.bench.specs.Play.{inLog}
 use Rattle.word.specs.Word.{Op, load, store, check, Answer, value, done, notDone}
 use Rattle.word.specs.Word as word
 use Rattle.word.specs.Order.{Call}
-use Rattle.linear.specs.Calls.{Reply, callsFrom, callsOf}
+use Rattle.word.specs.Calls.{Reply, callsFrom}
+use Rattle.linear.specs.Demand3.{callsIn}
 
 -- a call of process p, by places; a reply to one
 abbrev pub call : ℕ → ℕ → ℕ → Op ℕ → Answer ℕ → Call ℕ
 call asked decided p o a = record { asked = asked; decided = decided; process = p; word = 0; op = o; answer = a }
 
-abbrev pub reply : ℕ → ℕ → ℕ → Op ℕ → ℕ → ℕ → Answer ℕ → Reply
-reply place asked p o steps mark a = record { place = place; asked = asked; process = p; op = o; steps = steps; mark = mark; answer = a }
+abbrev pub reply : ℕ → ℕ → ℕ → Op ℕ → ℕ → Answer ℕ → Reply ℕ
+reply place asked p o steps a = record { place = place; asked = asked; process = p; word = 0; op = o; steps = steps; answer = a }
 
-abbrev pub Reads : List Line → List (Call ℕ) → List Reply → Type 0
+abbrev pub Reads : List Line → List (Call ℕ) → List (Reply ℕ) → Type 0
 Reads lines played replies =
-    (callsOf (map (λ l. l .entry) lines) (map (λ l. l .says) lines) .played ≡ played)
-    × (callsOf (map (λ l. l .entry) lines) (map (λ l. l .says) lines) .replies ≡ replies)
+    (callsIn (map (λ l. l .entry) lines) (map (λ l. inLog (l .says)) lines) .played ≡ played)
+    × (callsIn (map (λ l. l .entry) lines) (map (λ l. inLog (l .says)) lines) .replies ≡ replies)
 
-pub record Runs : Type 0 where
+pub record CallsOfRuns : Type 0 where
   -- "C: VL0 at the start: no."
-  pub C : Reads (asks 0 kind.Check ∷ saysNo 0 ∷ []) (call 0 1 0 check word.saysNo ∷ []) (reply 1 0 0 check 1 0 word.saysNo ∷ [])
+  pub C : Reads (asks 0 Check ∷ saysNo 0 ∷ []) (call 0 1 0 check word.saysNo ∷ []) (reply 1 0 0 check 1 word.saysNo ∷ [])
   -- D: done, decided at step 8; then not done
   pub D : Reads (LL 1 7 ++ (SC 1 40 ++ SCfails 1 41))
       (call 0 3 1 load (value 7) ∷ call 4 6 1 (store 40) done ∷ call 9 11 1 (store 41) notDone ∷ [])
-      (reply 3 0 1 load 3 1 (value 7) ∷ reply 8 4 1 (store 40) 4 0 done ∷ reply 11 9 1 (store 41) 2 0 notDone ∷ [])
+      (reply 3 0 1 load 3 (value 7) ∷ reply 8 4 1 (store 40) 4 done ∷ reply 11 9 1 (store 41) 2 notDone ∷ [])
   -- G: the store is not answered, and is played
   pub G : Reads (LL 0 7 ++ (SCtwo 0 20 ++ LL 1 20))
       (call 0 3 0 load (value 7) ∷ call 4 6 0 (store 20) done ∷ call 7 10 1 load (value 20) ∷ [])
-      (reply 3 0 0 load 3 1 (value 7) ∷ reply 10 7 1 load 3 1 (value 20) ∷ [])
+      (reply 3 0 0 load 3 (value 7) ∷ reply 10 7 1 load 3 (value 20) ∷ [])
   -- H: the first request is answered last; the store of 30 is neither answered nor past its step 8, and is not played
-  pub H : Reads (behind ++ (asks 0 (kind.Store 30) ∷ goes 0 1 ∷ goes 1 2 ∷ goes 1 3 ∷ gives 1 4 2 7 ∷ []))
+  pub H : Reads (behind ++ (asks 0 (Store 30) ∷ goes 0 1 ∷ goes 1 2 ∷ goes 1 3 ∷ gives 1 4 2 7 ∷ []))
       (call 2 5 0 load (value 7) ∷ call 6 8 0 (store 20) done ∷ call 11 14 0 load (value 20) ∷ call 0 19 1 load (value 7) ∷ [])
-      (reply 5 2 0 load 3 1 (value 7) ∷ reply 10 6 0 (store 20) 4 0 done ∷ reply 14 11 0 load 3 1 (value 20) ∷ reply 19 0 1 load 4 2 (value 7) ∷ [])
+      (reply 5 2 0 load 3 (value 7) ∷ reply 10 6 0 (store 20) 4 done ∷ reply 14 11 0 load 3 (value 20) ∷ reply 19 0 1 load 4 (value 7) ∷ [])
   -- K and L: refused entries are no calls, nor do they count
-  pub K : Reads (asks 0 kind.Check ∷ turned 0 kind.Load 12 ∷ turned 2 kind.Step 11 ∷ saysNo 0 ∷ [])
-      (call 0 3 0 check word.saysNo ∷ []) (reply 3 0 0 check 1 0 word.saysNo ∷ [])
+  pub K : Reads (asks 0 Check ∷ away 0 (Ask Load) 12 ∷ away 2 Step 11 ∷ saysNo 0 ∷ [])
+      (call 0 3 0 check word.saysNo ∷ []) (reply 3 0 0 check 1 word.saysNo ∷ [])
 
-pub runs-read : Runs
+pub runs-read : CallsOfRuns
 unfolding callsFrom
 runs-read = record { C = (refl, refl); D = (refl, refl); G = (refl, refl); H = (refl, refl); K = (refl, refl) }

@@ -3,35 +3,37 @@
 -- Assumes nothing.
 use Prim.Native.Nat.{ℕ, suc, _+_, _<_}
 use mathlib.Core.Path.{_≡_, refl, sym, ap, _∙_, subst, subst₂}
-use mathlib.Core.Bool.{Bool, true, false, not, cond}
+use mathlib.Core.Bool.{Bool, true, false, not, cond, false≢true}
 use native.Mathlib.Omega.{arith}
-use lib.Dec.{T, eqb, leb}
+use lib.Dec.{eqb, leb}
 use lib.IntN.{pos, _-ℤ_}
 use borrow.Author.Tests.{eqb-true, eq-eqb}
+use Rattle.numbers.specs.declared.Process.{Process}
 use Rattle.step.specs.Number.{isNear, sameTag, withOld}
 use Rattle.step.specs.Steps.{at, withSlot, withOldValue, answered, goesOn}
-use Rattle.step.specs.Requests.{requestOf, idle, begun, notTaken}
-use Rattle.step.specs.Requests as requests
-use Rattle.step.specs.declared.Process.{Process}
+use Rattle.step.specs.Requests.{requestOf, whenIdle, idle, begun, notTaken}
 use Rattle.step.specs.declared.Tag.{Tag}
+use Rattle.step.specs.declared.Row.{Row}
 use Rattle.step.specs.declared.Record.{Record}
+use Rattle.step.specs.declared.Kind.{Kind}
+use Rattle.step.specs.declared.Kind.the-variants.{Ask, Step}
 use Rattle.step.specs.declared.Request.{Request}
+use Rattle.step.specs.declared.Request.the-variants.{Load, Store, Check}
+use Rattle.step.specs.declared.Requested.{Requested}
 use Rattle.step.specs.declared.Place.{Place}
 use Rattle.step.specs.declared.Place.the-variants.{Idle, Load1, Load2, Load3, Load5, Store7, Store8, Store9, Store10, Check14}
 use Rattle.step.specs.declared.Outcome.{Outcome}
 use Rattle.step.specs.declared.Outcome.the-variants.{Taken, GoesOn, Current, Old, Done, NotDone, Yes, No, NoProcess, CallOpen, UsedUp, NoCall}
 use Rattle.machine.specs.State.{rowAt, recordAt}
-use Rattle.machine.specs.Entry.{refused, called}
+use Rattle.machine.specs.Entry.{withParts, refused, called}
+use Rattle.machine.specs.Frame.{Ready}
 use Rattle.machine.specs.Run.{turnedAway, changes}
 use Rattle.machine.specs.declared.State.{State}
-use Rattle.machine.specs.declared.Kind.{Kind}
-use Rattle.machine.specs.declared.Kind.the-variants as kind
 use Rattle.machine.specs.declared.Answer.{Answer}
 use Rattle.machine.proofs.Tests.{and-left, and-right, and-both}
 use Rattle.machine.proofs.Refusals.{refusal-same}
-use Rattle.machine.proofs.Runs.{Ready}
 use Rattle.linear.proofs.Invariant.{slotOf}
-use Rattle.linear.proofs.Moved.{Moved, Left, rowLeft, stepFrom, kindOf, by-entry, asked-left, step-left}
+use Rattle.linear.proofs.Moved.{Moved, Left, rowLeft, stepFrom, by-entry, asked-left, step-left}
 
 same-tag : (x : Tag) → sameTag x x ≡ true
 same-tag x = and-both _ _ (eq-eqb (x .process .0) (x .process .0) refl) (eq-eqb (x .number .0) (x .number .0) refl)
@@ -54,55 +56,54 @@ changed-by st st′ p following e = ap (λ (x : Tag). not (sameTag (st .x) x)) e
         let number : st .x .number .0 ≡ recordAt st p .next .0 = eqb-true _ _ (and-right (eqb (st .x .process .0) p) (eqb (st .x .number .0) (recordAt st p .next .0)) t) in
         absurd (omega (arith, number, subst (λ (q : ℕ). recordAt st q .next .0 ≡ suc (st .x .number .0)) process following))
 
--- The cases of a process p below N: the requests that are taken, and the steps.
-pub record Cases (G : Kind → State → Outcome → Bool → Type 0) (st : State) (p : ℕ) : Type 0 where
-  pub asks-load : recordAt st p .place ≡ Idle → (st′ : State) → st′ .x ≡ st .x
-      → Moved p st st′ (rowAt st p) (at (recordAt st p) Load1) → G kind.Load st′ Taken false
-  pub asks-store : (u : ℕ) → recordAt st p .place ≡ Idle → (st′ : State) → st′ .x ≡ st .x
-      → Moved p st st′ (rowAt st p) (at (recordAt st p) (Store7 u)) → G (kind.Store u) st′ Taken false
-  pub asks-check : recordAt st p .place ≡ Idle → (st′ : State) → st′ .x ≡ st .x
-      → Moved p st st′ (rowAt st p) (at (recordAt st p) Check14) → G kind.Check st′ Taken false
-  pub step-1 : recordAt st p .place ≡ Load1 → (st′ : State) → st′ .x ≡ st .x
-      → Moved p st st′ (rowAt st p) (record { kept = st .x; next = recordAt st p .next; place = Load2 }) → G kind.Step st′ GoesOn false
-  pub step-2 : recordAt st p .place ≡ Load2 → (st′ : State) → st′ .x ≡ st .x
-      → Moved p st st′ (rowAt st p) (at (recordAt st p) (Load3 (slotOf (rowAt st (recordAt st p .kept .process .0)) (recordAt st p .kept .number .0))))
-      → G kind.Step st′ GoesOn false
-  pub step-3-answers : (v : ℕ) → recordAt st p .place ≡ Load3 v
-      → isNear (rowAt st (recordAt st p .kept .process .0) .«old_number») (recordAt st p .kept .number .0) ≡ true → (st′ : State) → st′ .x ≡ st .x
-      → Moved p st st′ (rowAt st p) (at (recordAt st p) Idle) → G kind.Step st′ (Current v) false
-  pub step-3-goes-on : (v : ℕ) → recordAt st p .place ≡ Load3 v
-      → isNear (rowAt st (recordAt st p .kept .process .0) .«old_number») (recordAt st p .kept .number .0) ≡ false → (st′ : State) → st′ .x ≡ st .x
-      → Moved p st st′ (rowAt st p) (at (recordAt st p) Load5) → G kind.Step st′ GoesOn false
-  pub step-5 : recordAt st p .place ≡ Load5 → (st′ : State) → st′ .x ≡ st .x
-      → Moved p st st′ (rowAt st p) (at (recordAt st p) Idle) → G kind.Step st′ (Old (rowAt st (recordAt st p .kept .process .0) .«old_value»)) false
-  pub step-7 : (v : ℕ) → recordAt st p .place ≡ Store7 v → (st′ : State) → st′ .x ≡ st .x
-      → Moved p st st′ (withSlot (rowAt st p) (recordAt st p .next) v) (at (recordAt st p) Store8) → G kind.Step st′ GoesOn false
-  pub step-8-done : recordAt st p .place ≡ Store8 → sameTag (st .x) (recordAt st p .kept) ≡ true → (st′ : State)
-      → st′ .x ≡ record { process = record { 0 = p }; number = recordAt st p .next }
-      → Moved p st st′ (rowAt st p) (record { kept = recordAt st p .kept; next = record { 0 = recordAt st p .next .0 + 1 }; place = Store9 })
-      → G kind.Step st′ GoesOn true
-  pub step-8-not-done : recordAt st p .place ≡ Store8 → sameTag (st .x) (recordAt st p .kept) ≡ false → (st′ : State) → st′ .x ≡ st .x
-      → Moved p st st′ (rowAt st p) (at (recordAt st p) Idle) → G kind.Step st′ NotDone false
-  pub step-9 : recordAt st p .place ≡ Store9 → (st′ : State) → st′ .x ≡ st .x
-      → Moved p st st′ (withOldValue (rowAt st p) (slotOf (rowAt st p) (recordAt st p .next .0))) (at (recordAt st p) Store10) → G kind.Step st′ GoesOn false
-  pub step-10 : recordAt st p .place ≡ Store10 → (st′ : State) → st′ .x ≡ st .x
-      → Moved p st st′ (withOld (rowAt st p) (pos (recordAt st p .next .0) -ℤ pos 2)) (at (recordAt st p) Idle) → G kind.Step st′ Done false
-  pub step-14-yes : recordAt st p .place ≡ Check14 → sameTag (st .x) (recordAt st p .kept) ≡ true → (st′ : State) → st′ .x ≡ st .x
-      → Moved p st st′ (rowAt st p) (at (recordAt st p) Idle) → G kind.Step st′ Yes false
-  pub step-14-no : recordAt st p .place ≡ Check14 → sameTag (st .x) (recordAt st p .kept) ≡ false → (st′ : State) → st′ .x ≡ st .x
-      → Moved p st st′ (rowAt st p) (at (recordAt st p) Idle) → G kind.Step st′ No false
+-- The cases of a process p below N: the requests that are taken, and the steps. A calm one leaves X.
+module _ (G : Kind → State → Outcome → Bool → Type 0) (st : State) (p : ℕ) where
+  abbrev pub Calm : Kind → Outcome → Row → Record → Type 0
+  Calm k o r′ o′ = (st′ : State) → st′ .x ≡ st .x → Moved p st st′ r′ o′ → G k st′ o false
+
+  pub record Cases : Type 0 where
+    pub asks-load : recordAt st p .place ≡ Idle → Calm (Ask Load) Taken (rowAt st p) (at (recordAt st p) Load1)
+    pub asks-store : (u : ℕ) → recordAt st p .place ≡ Idle → Calm (Ask (Store u)) Taken (rowAt st p) (at (recordAt st p) (Store7 u))
+    pub asks-check : recordAt st p .place ≡ Idle → Calm (Ask Check) Taken (rowAt st p) (at (recordAt st p) Check14)
+    pub step-1 : recordAt st p .place ≡ Load1 → Calm Step GoesOn (rowAt st p) (record { kept = st .x; next = recordAt st p .next; place = Load2 })
+    pub step-2 : recordAt st p .place ≡ Load2
+        → Calm Step GoesOn (rowAt st p) (at (recordAt st p) (Load3 (slotOf (rowAt st (recordAt st p .kept .process .0)) (recordAt st p .kept .number .0))))
+    pub step-3-answers : (v : ℕ) → recordAt st p .place ≡ Load3 v
+        → isNear (rowAt st (recordAt st p .kept .process .0) .«old_number») (recordAt st p .kept .number .0) ≡ true
+        → Calm Step (Current v) (rowAt st p) (at (recordAt st p) Idle)
+    pub step-3-goes-on : (v : ℕ) → recordAt st p .place ≡ Load3 v
+        → isNear (rowAt st (recordAt st p .kept .process .0) .«old_number») (recordAt st p .kept .number .0) ≡ false
+        → Calm Step GoesOn (rowAt st p) (at (recordAt st p) Load5)
+    pub step-5 : recordAt st p .place ≡ Load5
+        → Calm Step (Old (rowAt st (recordAt st p .kept .process .0) .«old_value»)) (rowAt st p) (at (recordAt st p) Idle)
+    pub step-7 : (v : ℕ) → recordAt st p .place ≡ Store7 v
+        → Calm Step GoesOn (withSlot (rowAt st p) (recordAt st p .next) v) (at (recordAt st p) Store8)
+    pub step-8-done : recordAt st p .place ≡ Store8 → sameTag (st .x) (recordAt st p .kept) ≡ true → (st′ : State)
+        → st′ .x ≡ record { process = record { 0 = p }; number = recordAt st p .next }
+        → Moved p st st′ (rowAt st p) (record { kept = recordAt st p .kept; next = record { 0 = recordAt st p .next .0 + 1 }; place = Store9 })
+        → G Step st′ GoesOn true
+    pub step-8-not-done : recordAt st p .place ≡ Store8 → sameTag (st .x) (recordAt st p .kept) ≡ false
+        → Calm Step NotDone (rowAt st p) (at (recordAt st p) Idle)
+    pub step-9 : recordAt st p .place ≡ Store9
+        → Calm Step GoesOn (withOldValue (rowAt st p) (slotOf (rowAt st p) (recordAt st p .next .0))) (at (recordAt st p) Store10)
+    pub step-10 : recordAt st p .place ≡ Store10
+        → Calm Step Done (withOld (rowAt st p) (pos (recordAt st p .next .0) -ℤ pos 2)) (at (recordAt st p) Idle)
+    pub step-14-yes : recordAt st p .place ≡ Check14 → sameTag (st .x) (recordAt st p .kept) ≡ true
+        → Calm Step Yes (rowAt st p) (at (recordAt st p) Idle)
+    pub step-14-no : recordAt st p .place ≡ Check14 → sameTag (st .x) (recordAt st p .kept) ≡ false
+        → Calm Step No (rowAt st p) (at (recordAt st p) Idle)
 
 idle-is : (place : Place) → idle place ≡ true → place ≡ Idle
 idle-is Idle e = refl
-idle-is Load1 e = absurd (subst T (sym e) tt)
-idle-is Load2 e = absurd (subst T (sym e) tt)
-idle-is (Load3 v) e = absurd (subst T (sym e) tt)
-idle-is Load5 e = absurd (subst T (sym e) tt)
-idle-is (Store7 v) e = absurd (subst T (sym e) tt)
-idle-is Store8 e = absurd (subst T (sym e) tt)
-idle-is Store9 e = absurd (subst T (sym e) tt)
-idle-is Store10 e = absurd (subst T (sym e) tt)
-idle-is Check14 e = absurd (subst T (sym e) tt)
+idle-is Load1 e = absurd (false≢true e)
+idle-is Load2 e = absurd (false≢true e)
+idle-is (Load3 v) e = absurd (false≢true e)
+idle-is Load5 e = absurd (false≢true e)
+idle-is (Store7 v) e = absurd (false≢true e)
+idle-is Store8 e = absurd (false≢true e)
+idle-is Store9 e = absurd (false≢true e)
+idle-is Store10 e = absurd (false≢true e)
+idle-is Check14 e = absurd (false≢true e)
 
 module _ (G : Kind → State → Outcome → Bool → Type 0) (st : State) (p : Process) (ready : Ready st)
     (following : recordAt st (st .x .process .0) .next .0 ≡ suc (st .x .number .0))
@@ -117,7 +118,7 @@ module _ (G : Kind → State → Outcome → Bool → Type 0) (st : State) (p : 
   calm k a o e x g = shown k a o false e (unchanged st (a .state) x) g
 
   abbrev after-step : State
-  after-step = called st p kind.Step .state
+  after-step = called st p Step .state
 
   -- a refused entry leaves the state
   turned : (k : Kind) (o : Outcome) → called st p k .outcome ≡ o → turnedAway o ≡ true → Shown k (called st p k)
@@ -130,55 +131,48 @@ module _ (G : Kind → State → Outcome → Bool → Type 0) (st : State) (p : 
     abbrev own : Record
     own = recordAt st (p .0)
 
-    request-shown : (request : Request) → Shown (kindOf request) (called st p (kindOf request))
+    -- a request k that leaves r of p's record
+    abbrev To : Request → Requested → Type 0
+    To k r = called st p (Ask k) .outcome ≡ r .outcome → Moved (p .0) st (called st p (Ask k) .state) (rowAt st (p .0)) (r .own) → Shown (Ask k) (called st p (Ask k))
+
+    request-shown : (request : Request) → Shown (Ask request) (called st p (Ask request))
     unfolding requestOf
-    request-shown request = by-idle (idle (own .place)) refl (left .0) (left .2)
+    request-shown request = by-idle (idle (own .place)) refl (left .outcome) (left .moved)
       where
-        left :
-            (called st p (kindOf request) .outcome ≡ requestOf (st .s) (recordAt st (p .0)) request .outcome)
-            × (called st p (kindOf request) .state .x ≡ st .x)
-            × Moved (p .0) st (called st p (kindOf request) .state) (rowAt st (p .0)) (requestOf (st .s) (recordAt st (p .0)) request .own)
+        left : Left (p .0) st (withParts (st .x) (rowAt st (p .0)) (requestOf (st .s) (recordAt st (p .0)) request)) (rowAt st (p .0)) (called st p (Ask request))
         left = asked-left st p ready l request
 
-        by-room : (v : ℕ) (b : Bool) → own .place ≡ Idle → called st p (kind.Store v) .state .x ≡ st .x
-            → called st p (kind.Store v) .outcome ≡ cond b (begun own (Store7 v)) (notTaken own UsedUp) .outcome
-            → Moved (p .0) st (called st p (kind.Store v) .state) (rowAt st (p .0)) (cond b (begun own (Store7 v)) (notTaken own UsedUp) .own)
-            → Shown (kind.Store v) (called st p (kind.Store v))
-        by-room v true e x o m = calm (kind.Store v) (called st p (kind.Store v)) Taken o x (cases l .asks-store v e (called st p (kind.Store v) .state) x m)
-        by-room v false e x o m = turned (kind.Store v) UsedUp o refl
+        by-room : (v : ℕ) (b : Bool) → own .place ≡ Idle → called st p (Ask (Store v)) .state .x ≡ st .x → To (Store v) (cond b (begun own (Store7 v)) (notTaken own UsedUp))
+        by-room v true e x o m = calm (Ask (Store v)) (called st p (Ask (Store v))) Taken o x (cases l .asks-store v e (called st p (Ask (Store v)) .state) x m)
+        by-room v false e x o m = turned (Ask (Store v)) UsedUp o refl
 
-        by-kind : (r : Request) → own .place ≡ Idle → called st p (kindOf r) .state .x ≡ st .x
-            → called st p (kindOf r) .outcome ≡ requests.asked (st .s) own r .outcome
-            → Moved (p .0) st (called st p (kindOf r) .state) (rowAt st (p .0)) (requests.asked (st .s) own r .own)
-            → Shown (kindOf r) (called st p (kindOf r))
-        by-kind Request.Load e x o m = calm kind.Load (called st p kind.Load) Taken o x (cases l .asks-load e (called st p kind.Load .state) x m)
-        by-kind (Request.Store v) e x o m = by-room v (leb (own .next .0) (st .s .0)) e x o m
-        by-kind Request.Check e x o m = calm kind.Check (called st p kind.Check) Taken o x (cases l .asks-check e (called st p kind.Check .state) x m)
+        by-kind : (r : Request) → own .place ≡ Idle → called st p (Ask r) .state .x ≡ st .x → To r (whenIdle (st .s) own r)
+        by-kind Load e x o m = calm (Ask Load) (called st p (Ask Load)) Taken o x (cases l .asks-load e (called st p (Ask Load) .state) x m)
+        by-kind (Store v) e x o m = by-room v (leb (own .next .0) (st .s .0)) e x o m
+        by-kind Check e x o m = calm (Ask Check) (called st p (Ask Check)) Taken o x (cases l .asks-check e (called st p (Ask Check) .state) x m)
 
-        by-idle : (b : Bool) → idle (own .place) ≡ b → called st p (kindOf request) .outcome ≡ cond b (requests.asked (st .s) own request) (notTaken own CallOpen) .outcome
-            → Moved (p .0) st (called st p (kindOf request) .state) (rowAt st (p .0)) (cond b (requests.asked (st .s) own request) (notTaken own CallOpen) .own)
-            → Shown (kindOf request) (called st p (kindOf request))
-        by-idle true e o m = by-kind request (idle-is (own .place) e) (left .1) o m
-        by-idle false e o m = turned (kindOf request) CallOpen o refl
+        by-idle : (b : Bool) → idle (own .place) ≡ b → To request (cond b (whenIdle (st .s) own request) (notTaken own CallOpen))
+        by-idle true e o m = by-kind request (idle-is (own .place) e) (left .x) o m
+        by-idle false e o m = turned (Ask request) CallOpen o refl
 
     step-shown : (place : Place) → own .place ≡ place
-        → Left (p .0) st (stepFrom st p place) (rowLeft place (rowAt st (p .0)) (stepFrom st p place)) (called st p kind.Step)
-        → Shown kind.Step (called st p kind.Step)
-    step-shown Idle e left = turned kind.Step NoCall (left .outcome) refl
-    step-shown Load1 e left = calm kind.Step (called st p kind.Step) GoesOn (left .outcome) (left .x) (cases l .step-1 e after-step (left .x) (left .moved))
-    step-shown Load2 e left = calm kind.Step (called st p kind.Step) GoesOn (left .outcome) (left .x) (cases l .step-2 e after-step (left .x) (left .moved))
+        → Left (p .0) st (stepFrom st p place) (rowLeft place (rowAt st (p .0)) (stepFrom st p place)) (called st p Step)
+        → Shown Step (called st p Step)
+    step-shown Idle e left = turned Step NoCall (left .outcome) refl
+    step-shown Load1 e left = calm Step (called st p Step) GoesOn (left .outcome) (left .x) (cases l .step-1 e after-step (left .x) (left .moved))
+    step-shown Load2 e left = calm Step (called st p Step) GoesOn (left .outcome) (left .x) (cases l .step-2 e after-step (left .x) (left .moved))
     step-shown (Load3 v) e left = go (isNear (rowAt st (own .kept .process .0) .«old_number») (own .kept .number .0)) refl left
       where
         go : (b : Bool) → isNear (rowAt st (own .kept .process .0) .«old_number») (own .kept .number .0) ≡ b
             → Left (p .0) st
             (cond b (answered (st .x) own (rowAt st (own .kept .process .0)) (Current v)) (goesOn (st .x) (at own Load5) (rowAt st (own .kept .process .0))))
-            (rowAt st (p .0)) (called st p kind.Step)
-            → Shown kind.Step (called st p kind.Step)
-        go true t left = calm kind.Step (called st p kind.Step) (Current v) (left .outcome) (left .x) (cases l .step-3-answers v e t after-step (left .x) (left .moved))
-        go false t left = calm kind.Step (called st p kind.Step) GoesOn (left .outcome) (left .x) (cases l .step-3-goes-on v e t after-step (left .x) (left .moved))
+            (rowAt st (p .0)) (called st p Step)
+            → Shown Step (called st p Step)
+        go true t left = calm Step (called st p Step) (Current v) (left .outcome) (left .x) (cases l .step-3-answers v e t after-step (left .x) (left .moved))
+        go false t left = calm Step (called st p Step) GoesOn (left .outcome) (left .x) (cases l .step-3-goes-on v e t after-step (left .x) (left .moved))
     step-shown Load5 e left =
-        calm kind.Step (called st p kind.Step) (Old (rowAt st (own .kept .process .0) .«old_value»)) (left .outcome) (left .x) (cases l .step-5 e after-step (left .x) (left .moved))
-    step-shown (Store7 v) e left = calm kind.Step (called st p kind.Step) GoesOn (left .outcome) (left .x) (cases l .step-7 v e after-step (left .x) (left .moved))
+        calm Step (called st p Step) (Old (rowAt st (own .kept .process .0) .«old_value»)) (left .outcome) (left .x) (cases l .step-5 e after-step (left .x) (left .moved))
+    step-shown (Store7 v) e left = calm Step (called st p Step) GoesOn (left .outcome) (left .x) (cases l .step-7 v e after-step (left .x) (left .moved))
     step-shown Store8 e left = go (sameTag (st .x) (own .kept)) refl left
       where
         go : (b : Bool) → sameTag (st .x) (own .kept) ≡ b
@@ -186,24 +180,27 @@ module _ (G : Kind → State → Outcome → Bool → Type 0) (st : State) (p : 
             (cond b
             (goesOn (record { process = p; number = own .next }) (record { kept = own .kept; next = record { 0 = own .next .0 + 1 }; place = Store9 }) (rowAt st (p .0)))
             (answered (st .x) own (rowAt st (p .0)) NotDone))
-            (rowAt st (p .0)) (called st p kind.Step)
-            → Shown kind.Step (called st p kind.Step)
+            (rowAt st (p .0)) (called st p Step)
+            → Shown Step (called st p Step)
         go true t left =
-            shown kind.Step (called st p kind.Step) GoesOn true (left .outcome) (changed-by st after-step (p .0) following (left .x)) (cases l .step-8-done e t after-step (left .x) (left .moved))
-        go false t left = calm kind.Step (called st p kind.Step) NotDone (left .outcome) (left .x) (cases l .step-8-not-done e t after-step (left .x) (left .moved))
-    step-shown Store9 e left = calm kind.Step (called st p kind.Step) GoesOn (left .outcome) (left .x) (cases l .step-9 e after-step (left .x) (left .moved))
-    step-shown Store10 e left = calm kind.Step (called st p kind.Step) Done (left .outcome) (left .x) (cases l .step-10 e after-step (left .x) (left .moved))
+            shown Step (called st p Step) GoesOn true (left .outcome) (changed-by st after-step (p .0) following (left .x)) (cases l .step-8-done e t after-step (left .x) (left .moved))
+        go false t left = calm Step (called st p Step) NotDone (left .outcome) (left .x) (cases l .step-8-not-done e t after-step (left .x) (left .moved))
+    step-shown Store9 e left = calm Step (called st p Step) GoesOn (left .outcome) (left .x) (cases l .step-9 e after-step (left .x) (left .moved))
+    step-shown Store10 e left = calm Step (called st p Step) Done (left .outcome) (left .x) (cases l .step-10 e after-step (left .x) (left .moved))
     step-shown Check14 e left = go (sameTag (st .x) (own .kept)) refl (left .outcome)
       where
-        go : (b : Bool) → sameTag (st .x) (own .kept) ≡ b → called st p kind.Step .outcome ≡ cond b Yes No → Shown kind.Step (called st p kind.Step)
-        go true t o = calm kind.Step (called st p kind.Step) Yes o (left .x) (cases l .step-14-yes e t after-step (left .x) (left .moved))
-        go false t o = calm kind.Step (called st p kind.Step) No o (left .x) (cases l .step-14-no e t after-step (left .x) (left .moved))
+        go : (b : Bool) → sameTag (st .x) (own .kept) ≡ b → called st p Step .outcome ≡ cond b Yes No → Shown Step (called st p Step)
+        go true t o = calm Step (called st p Step) Yes o (left .x) (cases l .step-14-yes e t after-step (left .x) (left .moved))
+        go false t o = calm Step (called st p Step) No o (left .x) (cases l .step-14-no e t after-step (left .x) (left .moved))
 
   -- Every entry of p is one of these.
   pub by-cases : (k : Kind) → G k (called st p k .state) (called st p k .outcome) (changes st (called st p k .state))
   by-cases k =
       by-entry st p ready Shown
       (λ j. shown j (refused st NoProcess) NoProcess false refl (unchanged st st refl) (away j NoProcess refl))
-      (λ l request. request-shown l request)
-      (λ l. step-shown l (recordAt st (p .0) .place) refl (step-left st p ready l))
+      enters
       k
+    where
+      enters : p .0 < st .n → (k : Kind) → Shown k (called st p k)
+      enters l (Ask request) = request-shown l request
+      enters l Step = step-shown l (recordAt st (p .0) .place) refl (step-left st p ready l)

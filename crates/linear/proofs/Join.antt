@@ -19,7 +19,7 @@ use Rattle.machine.specs.declared.State.{State}
 use Rattle.word.specs.Word.{Link, Op, load, store, Answer, value, done, notDone, put, linked, answerOf, first}
 use Rattle.word.specs.Word as word
 use Rattle.word.specs.Order.{Call}
-use Rattle.word.proofs.Put.{split, put-same, put-other}
+use Rattle.word.proofs.Put.{split, put-same, put-other, put-id}
 use Rattle.word.proofs.Play.{after}
 use Rattle.word.proofs.Changes.{writes, wrote, total, valueAfter, total-quiet, total-snoc, value-snoc, value-new, writes-own, writes-nothing}
 use Rattle.word.proofs.Relink.{NoLoad, link-own}
@@ -33,87 +33,98 @@ use Rattle.linear.proofs.Kept.{own, row, newChange}
 use Rattle.linear.proofs.Side.{LinkOk, Undecided, LateFor, endLink, Side, SideAt, Sim, Way, way-same, way-quiet, way-done, way-load, link-snoc, side-on, link-behind, linked-same}
 
 -- An entry that changes no state: a refused one.
-pub sim-tick : {v : ℕ} {st : State} {now : ℕ} {asked : ℕ → ℕ} {op : ℕ → Op ℕ} {played : List (Call ℕ)}
-    → Sim v st now asked op played → Sim v st (suc now) asked op played
-sim-tick {v} {st} {now} {asked} {op} {played} s =
+pub sim-tick : {v : ℕ} {st : State} {now : ℕ} {asked : ℕ → ℕ} {op : ℕ → Op ℕ} {played : List (Call ℕ)} {seen : ℕ → Link} {changes : ℕ}
+    → Sim v st now asked op played seen changes → Sim v st (suc now) asked op played seen changes
+sim-tick {v} {st} {now} {asked} {op} {played} {seen} s =
     record {
       h = s .h;
-      seen = s .seen;
       order = s .order;
       good = good-tick (s .good);
+      count = s .count;
       inv = s .inv;
       vals = s .vals;
-      sides = λ q l. side-on (way-same v now (s .order) q) (asked q) (op q) (rowAt st q) (recordAt st q .next .0) (recordAt st q .place) (s .seen q) (s .sides q l);
+      sides = λ q l. side-on (way-same v now (s .order) q) (asked q) (op q) (rowAt st q) (recordAt st q .next .0) (recordAt st q .place) (seen q) (s .sides q l);
     }
 
-module _ {v : ℕ} {st : State} {now : ℕ} {asked : ℕ → ℕ} {op : ℕ → Op ℕ} {played : List (Call ℕ)} (s : Sim v st now asked op played) (p : ℕ) (l : p < st .n) where
+module _ {v : ℕ} {st : State} {now : ℕ} {asked : ℕ → ℕ} {op : ℕ → Op ℕ} {played : List (Call ℕ)} {seen : ℕ → Link} {changes : ℕ}
+    (s : Sim v st now asked op played seen changes) (p : ℕ) (l : p < st .n) where
   -- An entry of p: what is new of p, and a way for the others.
-  sim-on : {st′ : State} {r′ : Row} {o′ : Record} (asked′ : ℕ → ℕ) (op′ : ℕ → Op ℕ) (played′ order′ : List (Call ℕ)) (h′ : List Change) (sn′ : Link)
+  sim-on : {st′ : State} {r′ : Row} {o′ : Record} (asked′ : ℕ → ℕ) (op′ : ℕ → Op ℕ) (played′ order′ : List (Call ℕ)) (h′ : List Change) (sn′ : Link) (changes′ : ℕ)
       → ((q : ℕ) → q ≢ p → asked′ q ≡ asked q) → ((q : ℕ) → q ≢ p → op′ q ≡ op q)
-      → Moved p st st′ r′ o′ → Good v (suc now) order′ played′ → Inv st′ (total 0 order′) h′ (put p sn′ (s .seen))
+      → Moved p st st′ r′ o′ → Good v (suc now) order′ played′ → total 0 order′ ≡ changes′ → Inv st′ (total 0 order′) h′ (put p sn′ seen)
       → ((i q k u : ℕ) → At h′ i q k u → valueAfter 0 i v order′ ≡ u)
       → ((q : ℕ) → q ≢ p → Way v now (s .order) order′ q)
       → SideAt v (suc now) order′ p (asked′ p) (op′ p) r′ o′ sn′
-      → Sim v st′ (suc now) asked′ op′ played′
-  sim-on {st′} {r′} {o′} asked′ op′ played′ order′ h′ sn′ same-asked same-op m good inv vals ways mine =
+      → Sim v st′ (suc now) asked′ op′ played′ (put p sn′ seen) changes′
+  sim-on {st′} {r′} {o′} asked′ op′ played′ order′ h′ sn′ changes′ same-asked same-op m good count inv vals ways mine =
       record {
         h = h′;
-        seen = put p sn′ (s .seen);
         order = order′;
         good = good;
+        count = count;
         inv = inv;
         vals = vals;
         sides =
-            split (λ q. q < st′ .n → SideAt v (suc now) order′ q (asked′ q) (op′ q) (rowAt st′ q) (recordAt st′ q) (put p sn′ (s .seen) q)) p
-            (λ l′. subst (SideAt v (suc now) order′ p (asked′ p) (op′ p) (rowAt st′ p) (recordAt st′ p)) (sym (put-same p sn′ (s .seen)))
+            split (λ q. q < st′ .n → SideAt v (suc now) order′ q (asked′ q) (op′ q) (rowAt st′ q) (recordAt st′ q) (put p sn′ seen q)) p
+            (λ l′. subst (SideAt v (suc now) order′ p (asked′ p) (op′ p) (rowAt st′ p) (recordAt st′ p)) (sym (put-same p sn′ seen))
             (subst₂ (λ (r : Row) (o : Record). SideAt v (suc now) order′ p (asked′ p) (op′ p) r o sn′) (sym (m .row)) (sym (m .own)) mine))
-            (λ q ne l′. subst (SideAt v (suc now) order′ q (asked′ q) (op′ q) (rowAt st′ q) (recordAt st′ q)) (sym (put-other p sn′ (s .seen) q ne))
-            (subst₂ (λ (r : Row) (o : Record). SideAt v (suc now) order′ q (asked′ q) (op′ q) r o (s .seen q)) (sym (m .frame .rows q ne)) (sym (m .frame .records q ne))
-            (subst₂ (λ (t : ℕ) (o : Op ℕ). SideAt v (suc now) order′ q t o (rowAt st q) (recordAt st q) (s .seen q)) (sym (same-asked q ne)) (sym (same-op q ne))
-            (side-on (ways q ne) (asked q) (op q) (rowAt st q) (recordAt st q .next .0) (recordAt st q .place) (s .seen q)
+            (λ q ne l′. subst (SideAt v (suc now) order′ q (asked′ q) (op′ q) (rowAt st′ q) (recordAt st′ q)) (sym (put-other p sn′ seen q ne))
+            (subst₂ (λ (r : Row) (o : Record). SideAt v (suc now) order′ q (asked′ q) (op′ q) r o (seen q)) (sym (m .frame .rows q ne)) (sym (m .frame .records q ne))
+            (subst₂ (λ (t : ℕ) (o : Op ℕ). SideAt v (suc now) order′ q t o (rowAt st q) (recordAt st q) (seen q)) (sym (same-asked q ne)) (sym (same-op q ne))
+            (side-on (ways q ne) (asked q) (op q) (rowAt st q) (recordAt st q .next .0) (recordAt st q .place) (seen q)
             (s .sides q (omega (arith, l′, m .frame .n)))))));
       }
 
   -- what is kept of p, at a known place
   pub side-at : {place : Place} → recordAt st p .place ≡ place
-      → Side v now (s .order) p (asked p) (op p) (rowAt st p) (recordAt st p .next .0) place (s .seen p)
-  side-at e = subst (λ (place : Place). Side v now (s .order) p (asked p) (op p) (rowAt st p) (recordAt st p .next .0) place (s .seen p)) e (s .sides p l)
+      → Side v now (s .order) p (asked p) (op p) (rowAt st p) (recordAt st p .next .0) place (seen p)
+  side-at e = subst (λ (place : Place). Side v now (s .order) p (asked p) (op p) (rowAt st p) (recordAt st p .next .0) place (seen p)) e (s .sides p l)
 
   -- A step that decides nothing: 1, 2, 3 that goes on, 7, 9, 10.
   pub sim-quiet : {st′ : State} {r′ : Row} {o′ : Record} (sn′ : Link)
-      → Moved p st st′ r′ o′ → Inv st′ (total 0 (s .order)) (s .h) (put p sn′ (s .seen))
-      → SideAt v (suc now) (s .order) p (asked p) (op p) r′ o′ sn′ → Sim v st′ (suc now) asked op played
+      → Moved p st st′ r′ o′ → Inv st′ (total 0 (s .order)) (s .h) (put p sn′ seen)
+      → SideAt v (suc now) (s .order) p (asked p) (op p) r′ o′ sn′ → Sim v st′ (suc now) asked op played (put p sn′ seen) changes
   sim-quiet sn′ m inv mine =
-      sim-on asked op played (s .order) (s .h) sn′ (λ q ne. refl) (λ q ne. refl) m (good-tick (s .good)) inv (s .vals)
+      sim-on asked op played (s .order) (s .h) sn′ changes (λ q ne. refl) (λ q ne. refl) m (good-tick (s .good)) (s .count) inv (s .vals)
       (λ q ne. way-same v now (s .order) q) mine
+
+  -- what p has seen is as it was
+  as-seen : {st′ : State} {now′ : ℕ} {asked′ : ℕ → ℕ} {op′ : ℕ → Op ℕ} {played′ : List (Call ℕ)} {changes′ : ℕ}
+      → Sim v st′ now′ asked′ op′ played′ (put p (seen p) seen) changes′ → Sim v st′ now′ asked′ op′ played′ seen changes′
+  as-seen {st′} {now′} {asked′} {op′} {played′} {changes′} s′ = subst (λ (sn : ℕ → Link). Sim v st′ now′ asked′ op′ played′ sn changes′) (put-id p seen) s′
+
+  pub sim-still : {st′ : State} {r′ : Row} {o′ : Record} → Moved p st st′ r′ o′ → Inv st′ (total 0 (s .order)) (s .h) (put p (seen p) seen)
+      → SideAt v (suc now) (s .order) p (asked p) (op p) r′ o′ (seen p) → Sim v st′ (suc now) asked op played seen changes
+  sim-still m inv mine = as-seen (sim-quiet (seen p) m inv mine)
 
   -- A request: all calls so far were decided before it.
   pub sim-request : {st′ : State} {r′ : Row} {o′ : Record} (o : Op ℕ)
-      → Moved p st st′ r′ o′ → Inv st′ (total 0 (s .order)) (s .h) (put p (s .seen p) (s .seen))
-      → (Undecided p now (suc now) (s .order) (put p o op p) o → SideAt v (suc now) (s .order) p now (put p o op p) r′ o′ (s .seen p))
-      → Sim v st′ (suc now) (put p now asked) (put p o op) played
+      → Moved p st st′ r′ o′ → Inv st′ (total 0 (s .order)) (s .h) (put p (seen p) seen)
+      → (Undecided p now (suc now) (s .order) (put p o op p) o → SideAt v (suc now) (s .order) p now (put p o op p) r′ o′ (seen p))
+      → Sim v st′ (suc now) (put p now asked) (put p o op) played seen changes
   sim-request {r′ = r′} {o′ = o′} o m inv mine =
-      sim-on (put p now asked) (put p o op) played (s .order) (s .h) (s .seen p) (put-other p now asked) (put-other p o op) m (good-tick (s .good)) inv (s .vals)
+      as-seen
+      (sim-on (put p now asked) (put p o op) played (s .order) (s .h) (seen p) changes (put-other p now asked) (put-other p o op) m (good-tick (s .good)) (s .count) inv (s .vals)
       (λ q ne. way-same v now (s .order) q)
-      (subst (λ (t : ℕ). SideAt v (suc now) (s .order) p t (put p o op p) r′ o′ (s .seen p)) (sym (put-same p now asked))
-      (mine (record { kind = put-same p o op; before = omega arith; own = own-new p (s .good) })))
+      (subst (λ (t : ℕ). SideAt v (suc now) (s .order) p t (put p o op p) r′ o′ (seen p)) (sym (put-same p now asked))
+      (mine (record { kind = put-same p o op; before = omega arith; own = own-new p (s .good) }))))
 
   -- A load answered now with the value of change m, not older than the change i that its step 1 has seen.
   pub sim-load : {st′ : State} {o′ : Record} (i m q k u : ℕ) → o′ .place ≡ Idle
-      → Moved p st st′ (rowAt st p) o′ → Inv st′ (total 0 (s .order)) (s .h) (put p (s .seen p) (s .seen))
-      → Undecided p (asked p) now (s .order) (op p) load → LateFor (asked p) (s .order) (s .seen p) → s .seen p ≡ word.at i
+      → Moved p st st′ (rowAt st p) o′ → Inv st′ (total 0 (s .order)) (s .h) (put p (seen p) seen)
+      → Undecided p (asked p) now (s .order) (op p) load → LateFor (asked p) (s .order) (seen p) → seen p ≡ word.at i
       → i ≤ m → At (s .h) m q k u → LinkOk (total 0 (s .order)) (word.at m) (word.at i)
-      → Sim v st′ (suc now) asked op (played ++ record { asked = asked p; decided = now; process = p; word = 0; op = op p; answer = value u } ∷ [])
+      → Sim v st′ (suc now) asked op (played ++ record { asked = asked p; decided = now; process = p; word = 0; op = op p; answer = value u } ∷ []) seen changes
   sim-load {st′} {o′} i m q k u idle moved inv und late sn le a ok =
       subst₂
-      (λ (o : Op ℕ) (w : ℕ). Sim v st′ (suc now) asked op (played ++ record { asked = asked p; decided = now; process = p; word = 0; op = o; answer = value w } ∷ []))
+      (λ (o : Op ℕ) (w : ℕ). Sim v st′ (suc now) asked op (played ++ record { asked = asked p; decided = now; process = p; word = 0; op = o; answer = value w } ∷ []) seen changes)
       (sym (und .kind)) (s .vals m q k u a)
-      (sim-on asked op (played ++ x ∷ []) (ins 0 m x (s .order)) (s .h) (s .seen p) (λ q ne. refl) (λ q ne. refl) moved
-      (good-load (asked p) p 0 m (s .good) may)
-      (subst (λ (t : ℕ). Inv st′ t (s .h) (put p (s .seen p) (s .seen))) (sym (total-ins 0 m 0 x (s .order) refl)) inv)
+      (as-seen (sim-on asked op (played ++ x ∷ []) (ins 0 m x (s .order)) (s .h) (seen p) changes (λ q ne. refl) (λ q ne. refl) moved
+      (good-load (asked p) p 0 m (s .good) may) (total-ins 0 m 0 x (s .order) refl ∙ s .count)
+      (subst (λ (t : ℕ). Inv st′ t (s .h) (put p (seen p) seen)) (sym (total-ins 0 m 0 x (s .order) refl)) inv)
       (λ j z n w b. value-ins 0 m 0 x (s .order) refl j v ∙ s .vals j z n w b)
       (λ z ne. way-load v now (s .order) played (asked p) p m z (s .good) may (λ e. ne (sym e)))
-      (subst (λ (place : Place). Side v (suc now) (ins 0 m x (s .order)) p (asked p) (op p) (rowAt st p) (o′ .next .0) place (s .seen p)) (sym idle)
+      (subst (λ (place : Place). Side v (suc now) (ins 0 m x (s .order)) p (asked p) (op p) (rowAt st p) (o′ .next .0) place (seen p)) (sym idle)
       (record {
         link =
             subst₂ (LinkOk (total 0 (ins 0 m x (s .order))))
@@ -121,7 +132,7 @@ module _ {v : ℕ} {st : State} {now : ℕ} {asked : ℕ → ℕ} {op : ℕ → 
             (sym sn)
             (subst (λ (t : ℕ). LinkOk t (word.at m) (word.at i)) (sym (total-ins 0 m 0 x (s .order) refl)) ok);
         call = tt;
-      })))
+      }))))
     where
       x : Call ℕ
       x = loadCall (asked p) now p 0 (valueAfter 0 m v (s .order))
@@ -136,37 +147,37 @@ module _ {v : ℕ} {st : State} {now : ℕ} {asked : ℕ → ℕ} {op : ℕ → 
           }
 
   -- The word's link of p passes exactly if X is p's kept tag.
-  pub agree : LinkOk (total 0 (s .order)) (endLink v (s .order) p) (s .seen p)
+  pub agree : LinkOk (total 0 (s .order)) (endLink v (s .order) p) (seen p)
       → linked (endLink v (s .order) p) (after (first v) (s .order) 0 .count) ≡ sameTag (st .x) (recordAt st p .kept)
   agree ok =
       ap (linked (endLink v (s .order) p)) (good-count 0 (s .good))
-      ∙ linked-same (total 0 (s .order)) (endLink v (s .order) p) (s .seen p) ok
+      ∙ linked-same (total 0 (s .order)) (endLink v (s .order) p) (seen p) ok
       ∙ sym (tag-test (s .inv) p l)
 
   -- A store that is not done, or a check: decided now, at the end; it changes nothing.
   pub sim-append : {st′ : State} {o′ : Record} (o : Op ℕ) (a : Answer ℕ) → o′ .place ≡ Idle
-      → Moved p st st′ (rowAt st p) o′ → Inv st′ (total 0 (s .order)) (s .h) (put p (s .seen p) (s .seen))
+      → Moved p st st′ (rowAt st p) o′ → Inv st′ (total 0 (s .order)) (s .h) (put p (seen p) seen)
       → Undecided p (asked p) now (s .order) (op p) o → NoLoad o → wrote o a ≡ none
-      → LinkOk (total 0 (s .order)) (endLink v (s .order) p) (s .seen p)
+      → LinkOk (total 0 (s .order)) (endLink v (s .order) p) (seen p)
       → answerOf (after (first v) (s .order) 0) p o ≡ a
-      → Sim v st′ (suc now) asked op (played ++ record { asked = asked p; decided = now; process = p; word = 0; op = op p; answer = a } ∷ [])
+      → Sim v st′ (suc now) asked op (played ++ record { asked = asked p; decided = now; process = p; word = 0; op = op p; answer = a } ∷ []) seen changes
   sim-append {st′} {o′} o a idle moved inv und noload quiet ok right =
       subst
-      (λ (o : Op ℕ). Sim v st′ (suc now) asked op (played ++ record { asked = asked p; decided = now; process = p; word = 0; op = o; answer = a } ∷ []))
+      (λ (o : Op ℕ). Sim v st′ (suc now) asked op (played ++ record { asked = asked p; decided = now; process = p; word = 0; op = o; answer = a } ∷ []) seen changes)
       (sym (und .kind))
-      (sim-on asked op (played ++ c ∷ []) (s .order ++ c ∷ []) (s .h) (s .seen p) (λ q ne. refl) (λ q ne. refl) moved
-      (good-append c (s .good) (und .before) refl right)
-      (subst (λ (t : ℕ). Inv st′ t (s .h) (put p (s .seen p) (s .seen))) (sym (total-quiet 0 (s .order) c nothing)) inv)
+      (as-seen (sim-on asked op (played ++ c ∷ []) (s .order ++ c ∷ []) (s .h) (seen p) changes (λ q ne. refl) (λ q ne. refl) moved
+      (good-append c (s .good) (und .before) refl right) (total-quiet 0 (s .order) c nothing ∙ s .count)
+      (subst (λ (t : ℕ). Inv st′ t (s .h) (put p (seen p) seen)) (sym (total-quiet 0 (s .order) c nothing)) inv)
       (λ j z n w b. value-snoc 0 j v (s .order) c (place-low (s .inv) j z n w b) ∙ s .vals j z n w b)
       (λ z ne. way-quiet v now (s .order) c z refl (λ e. ne (sym e)) noload nothing)
-      (subst (λ (place : Place). Side v (suc now) (s .order ++ c ∷ []) p (asked p) (op p) (rowAt st p) (o′ .next .0) place (s .seen p)) (sym idle)
+      (subst (λ (place : Place). Side v (suc now) (s .order ++ c ∷ []) p (asked p) (op p) (rowAt st p) (o′ .next .0) place (seen p)) (sym idle)
       (record {
         link =
-            subst₂ (λ (t : ℕ) (k : Link). LinkOk t k (s .seen p)) (sym (total-quiet 0 (s .order) c nothing))
+            subst₂ (λ (t : ℕ) (k : Link). LinkOk t k (seen p)) (sym (total-quiet 0 (s .order) c nothing))
             (sym (link-snoc v (s .order) c p noload))
             ok;
         call = tt;
-      })))
+      }))))
     where
       c : Call ℕ
       c = record { asked = asked p; decided = now; process = p; word = 0; op = o; answer = a }
@@ -176,28 +187,28 @@ module _ {v : ℕ} {st : State} {now : ℕ} {asked : ℕ → ℕ} {op : ℕ → 
 
   -- A store whose step 8 succeeds: decided now, at the end; one more change, and everybody is behind it.
   pub sim-done : {st′ : State} {o′ : Record} → o′ .place ≡ Store9
-      → Moved p st st′ (rowAt st p) o′ → Inv st′ (suc (total 0 (s .order))) (newChange st p ∷ s .h) (put p (s .seen p) (s .seen))
+      → Moved p st st′ (rowAt st p) o′ → Inv st′ (suc (total 0 (s .order))) (newChange st p ∷ s .h) (put p (seen p) seen)
       → Undecided p (asked p) now (s .order) (op p) (store (slotOf (rowAt st p) (recordAt st p .next .0)))
-      → LinkOk (total 0 (s .order)) (endLink v (s .order) p) (s .seen p)
+      → LinkOk (total 0 (s .order)) (endLink v (s .order) p) (seen p)
       → sameTag (st .x) (recordAt st p .kept) ≡ true
-      → Sim v st′ (suc now) asked op (played ++ record { asked = asked p; decided = now; process = p; word = 0; op = op p; answer = done } ∷ [])
+      → Sim v st′ (suc now) asked op (played ++ record { asked = asked p; decided = now; process = p; word = 0; op = op p; answer = done } ∷ []) seen (suc changes)
   sim-done {st′} {o′} at-9 moved inv und ok same =
       subst
-      (λ (o : Op ℕ). Sim v st′ (suc now) asked op (played ++ record { asked = asked p; decided = now; process = p; word = 0; op = o; answer = done } ∷ []))
+      (λ (o : Op ℕ). Sim v st′ (suc now) asked op (played ++ record { asked = asked p; decided = now; process = p; word = 0; op = o; answer = done } ∷ []) seen (suc changes))
       (sym (und .kind))
-      (sim-on asked op (played ++ c ∷ []) (s .order ++ c ∷ []) (newChange st p ∷ s .h) (s .seen p) (λ q ne. refl) (λ q ne. refl) moved
-      (good-append c (s .good) (und .before) refl (ap (λ (b : Bool). cond b done notDone) (agree ok ∙ same)))
-      (subst (λ (t : ℕ). Inv st′ t (newChange st p ∷ s .h) (put p (s .seen p) (s .seen))) (sym more) inv)
+      (as-seen (sim-on asked op (played ++ c ∷ []) (s .order ++ c ∷ []) (newChange st p ∷ s .h) (seen p) (suc changes) (λ q ne. refl) (λ q ne. refl) moved
+      (good-append c (s .good) (und .before) refl (ap (λ (b : Bool). cond b done notDone) (agree ok ∙ same))) (more ∙ ap suc (s .count))
+      (subst (λ (t : ℕ). Inv st′ t (newChange st p ∷ s .h) (put p (seen p) seen)) (sym more) inv)
       vals
       (λ z ne. way-done v now (s .order) c z refl (λ e. ne (sym e)) tt (writes-own c))
-      (subst (λ (place : Place). Side v (suc now) (s .order ++ c ∷ []) p (asked p) (op p) (rowAt st p) (o′ .next .0) place (s .seen p)) (sym at-9)
+      (subst (λ (place : Place). Side v (suc now) (s .order ++ c ∷ []) p (asked p) (op p) (rowAt st p) (o′ .next .0) place (seen p)) (sym at-9)
       (record {
         link =
-            subst₂ (λ (t : ℕ) (k : Link). LinkOk t k (s .seen p)) (sym more)
+            subst₂ (λ (t : ℕ) (k : Link). LinkOk t k (seen p)) (sym more)
             (sym (link-snoc v (s .order) c p tt))
-            (link-behind (total 0 (s .order)) (endLink v (s .order) p) (s .seen p) ok);
+            (link-behind (total 0 (s .order)) (endLink v (s .order) p) (seen p) ok);
         call = tt;
-      })))
+      }))))
     where
       c : Call ℕ
       c = record { asked = asked p; decided = now; process = p; word = 0; op = store (slotOf (rowAt st p) (recordAt st p .next .0)); answer = done }

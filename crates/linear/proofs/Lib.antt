@@ -1,4 +1,4 @@
--- Demand 3 for every run of the machine. Which file says what, bottom up; the facts on the machine (to Latest) and the theorems on the
+-- Demand 3 for every run of the machine. Which file says what, bottom up; the facts on the machine (to Cases) and the theorems on the
 -- word (crate word) meet only in Side, Join and Simulated.
 --     Agree         the definitions of the calls at document 01's runs
 --     Lift          old numbers as natural numbers; the only place that opens step 3's test (guard-low, guard-high)
@@ -9,16 +9,15 @@
 --     Moved         what an entry leaves of a state: X, its process's row and record (Moved, Left)
 --     Kept          every step keeps the invariants: the frame, the calm steps, and 7, 8, 9, 10
 --     Cases         what an entry can come to, case by case (Cases, by-cases)
---     Noted         an entry's note by its outcome
+--     Noted         an entry's record by its outcome, and the item that it tells
 --     Side          the simulation relation (Sim), and how it goes on for those that take no step
 --     Join          how it goes on by a request, a quiet step, a load, a call at the end, a change
 --     Simulated     it holds at the start and goes on by every entry
---     Told          replies and played calls, with no machine in them
 --     Known         own steps and replies: the second induction
---     Demand3       the theorem: demand-3
---     Latest        when a store is done, by the latest step 1 and the count of changes (stores-linked)
+--     Demand3       the theorem: demand-3; with it when X changes (changes-decide) and when a store is done (stores-linked)
 --     Facts         the old number is never below k - 2; at step 5 X is not the kept tag
---     OfFile        demand 3 of every list of bytes that the reader accepts: demand-3-of-files
+--     Values        V and the stored values of a file fit eight bytes
+--     OfFile        demand 3 of every list of bytes that the reader accepts and of its log: demand-3-of-files
 pub mod Agree
 pub mod Cases
 pub mod Consequences
@@ -29,7 +28,6 @@ pub mod Invariant
 pub mod Join
 pub mod Kept
 pub mod Known
-pub mod Latest
 pub mod Lift
 pub mod Moved
 pub mod Noted
@@ -37,4 +35,4 @@ pub mod OfFile
 pub mod Side
 pub mod Simulated
 pub mod Start
-pub mod Told
+pub mod Values

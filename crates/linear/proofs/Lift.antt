@@ -2,7 +2,7 @@
 -- Assumes nothing.
 use Prim.Native.Nat.{ℕ, suc, _+_, _-_, _≤_, _<_}
 use mathlib.Core.Path.{_≡_, refl, sym, subst}
-use mathlib.Core.Bool.{Bool, true, false, cond, _||_}
+use mathlib.Core.Bool.{Bool, true, false, cond, _||_, false≢true}
 use native.Mathlib.Omega.{arith}
 use lib.Dec.{T, leb, ltb, eqb}
 use lib.IntN.{ℤ, pos, negsuc, subℕ, _-ℤ_}
@@ -20,7 +20,7 @@ pos-is : (n k j : ℕ) → eqZ (pos n) (subℕ k j) ≡ true → n + j ≡ k
 pos-is n k j = go (ltb k j) refl
   where
     go : (b : Bool) → ltb k j ≡ b → eqZ (pos n) (cond b (negsuc (j - suc k)) (pos (k - j))) ≡ true → n + j ≡ k
-    go true e t = absurd (subst T (sym t) tt)
+    go true e t = absurd (false≢true t)
     go false e t = omega (arith, ltb-false k j e, eqb-true n (k - j) t)
 
 is-pos : (n k j : ℕ) → n + j ≡ k → eqZ (pos n) (subℕ k j) ≡ true

@@ -6,34 +6,34 @@ use mathlib.Core.Path.{_≡_, refl, ap, _∙_}
 use mathlib.Core.Bool.{Bool, true, false, cond}
 use native.Mathlib.Omega.{arith}
 use lib.Dec.{leb, ltb}
-use lib.ListN.{getD, set}
-use lib.Seq.{getD-set-same, set-getD}
 use borrow.Author.Tests.{lt-ltb, ltb-true, le-leb}
+use Rattle.numbers.specs.declared.Process.{Process}
+use Rattle.numbers.proofs.Range.{range-of}
 use Rattle.step.specs.Number.{isNear, sameTag}
 use Rattle.step.specs.Steps.{stepAt, stepOf, reachedAt, largestNext}
 use Rattle.step.specs.Requests.{requestOf}
 use Rattle.step.proofs.Reach.{either-way}
-use Rattle.step.specs.declared.Process.{Process}
 use Rattle.step.specs.declared.Row.{Row}
 use Rattle.step.specs.declared.Record.{Record}
+use Rattle.step.specs.declared.Kind.{Kind}
+use Rattle.step.specs.declared.Kind.the-variants.{Ask, Step}
 use Rattle.step.specs.declared.Request.{Request}
 use Rattle.step.specs.declared.Place.{Place}
 use Rattle.step.specs.declared.Place.the-variants.{Idle, Load1, Load2, Load3, Load5, Store7, Store8, Store9, Store10, Check14}
 use Rattle.step.specs.declared.Stepped.{Stepped}
 use Rattle.step.specs.declared.Outcome.the-variants.{NoProcess}
-use Rattle.machine.specs.State.{rowAt, recordAt, noRow, noRecord}
-use Rattle.machine.specs.Entry.{refused, requested, stepped, entered, called}
+use Rattle.machine.specs.State.{rowAt, recordAt}
+use Rattle.machine.specs.Entry.{withParts, withEntry, refused, entered, called}
+use Rattle.machine.specs.Frame.{Frame, Ready}
 use Rattle.machine.specs.declared.State.{State}
-use Rattle.machine.specs.declared.Kind.{Kind}
-use Rattle.machine.specs.declared.Kind.the-variants as kind
 use Rattle.machine.specs.declared.Answer.{Answer}
-use Rattle.machine.proofs.Soundness.{range-of, sound-back}
-use Rattle.machine.proofs.Frame.{Frame, frame}
-use Rattle.machine.proofs.Runs.{Ready}
+use Rattle.machine.proofs.Soundness.{sure}
+use Rattle.machine.proofs.Writers.{row-same, row-kept, record-same}
+use Rattle.machine.proofs.Frame.{frame}
 
 -- the process in a kept tag is below N
 pub tag-below : (st : State) (p : ℕ) → Ready st → p < st .n → recordAt st p .kept .process .0 < st .n
-tag-below st p ready l = ready .sure .each p l .kept .owner
+tag-below st p ready l = sure ready .each p l .kept .owner
 
 -- p's row is r′ and p's record is o′, and of the others nothing has changed
 pub record Moved (p : ℕ) (st st′ : State) (r′ : Row) (o′ : Record) : Type 0 where
@@ -41,7 +41,7 @@ pub record Moved (p : ℕ) (st st′ : State) (r′ : Row) (o′ : Record) : Typ
   pub row : rowAt st′ p ≡ r′
   pub own : recordAt st′ p ≡ o′
 
--- what a step m of p comes to
+-- what an entry of p that leaves m comes to
 pub record Left (p : ℕ) (st : State) (m : Stepped) (r′ : Row) (a : Answer) : Type 0 where
   pub outcome : a .outcome ≡ m .outcome
   pub x : a .state .x ≡ m .x
@@ -65,120 +65,87 @@ abbrev pub stepFrom : State → Process → Place → Stepped
 stepFrom st p place =
     stepAt p (st .x) (recordAt st (p .0)) (rowAt st (reachedAt p (recordAt st (p .0) .kept) place .0)) place
 
-abbrev pub kindOf : Request → Kind
-kindOf Request.Load = kind.Load
-kindOf (Request.Store v) = kind.Store v
-kindOf Request.Check = kind.Check
-
 module _ (st : State) (p : Process) (ready : Ready st) where
   -- Process not below N: 11. Otherwise a request or a step of its own.
   pub by-entry : (P : Kind → Answer → Type 0)
-      → ((k : Kind) → P k (refused st NoProcess))
-      → (p .0 < st .n → (request : Request) → P (kindOf request) (called st p (kindOf request)))
-      → (p .0 < st .n → P kind.Step (called st p kind.Step))
+      → ((k : Kind) → P k (refused st NoProcess)) → (p .0 < st .n → (k : Kind) → P k (called st p k))
       → (k : Kind) → P k (called st p k)
   unfolding called
-  by-entry P away asks steps k = rw (sound-back st (ready .sure)) (inner (ltb (p .0) (st .n)) refl)
+  by-entry P away enters k = rw (ready .tested) (inner (ltb (p .0) (st .n)) refl)
     where
-      asks′ : p .0 < st .n → (request : Request) → P (kindOf request) (entered st p (kindOf request))
-      asks′ l request = rw (sound-back st (ready .sure), lt-ltb (p .0) (st .n) l) at (asks l request)
-
-      steps′ : p .0 < st .n → P kind.Step (stepped st p)
-      steps′ l = rw (sound-back st (ready .sure), lt-ltb (p .0) (st .n) l) at (steps l)
-
-      by-kind : (k : Kind) → p .0 < st .n → P k (entered st p k)
-      by-kind kind.Load l = asks′ l Request.Load
-      by-kind (kind.Store v) l = asks′ l (Request.Store v)
-      by-kind kind.Check l = asks′ l Request.Check
-      by-kind kind.Step l = steps′ l
+      enters′ : p .0 < st .n → P k (entered st p k)
+      enters′ l = rw (ready .tested, lt-ltb (p .0) (st .n) l) at (enters l k)
 
       inner : (b : Bool) → ltb (p .0) (st .n) ≡ b → P k (cond b (entered st p k) (refused st NoProcess))
-      inner true e = by-kind k (ltb-true (p .0) (st .n) e)
+      inner true e = enters′ (ltb-true (p .0) (st .n) e)
       inner false e = away k
 
   module _ (l : p .0 < st .n) where
     sixteen : p .0 < 16
-    sixteen = omega (arith, l, range-of (st .n) (st .s) (ready .sure .range) .few)
+    sixteen = omega (arith, l, range-of (st .n) (st .s) (sure ready .range) .few)
+
+    called-is : (k : Kind) → called st p k ≡ entered st p k
+    unfolding called
+    called-is k = rw (ready .tested, lt-ltb (p .0) (st .n) l)
+
+    -- what holds of the entry over its parts holds of the call
+    left-by : (k : Kind) (m : Stepped) (r′ : Row) → entered st p k .outcome ≡ m .outcome → entered st p k .state .x ≡ m .x
+        → rowAt (entered st p k .state) (p .0) ≡ r′ → recordAt (entered st p k .state) (p .0) ≡ m .own
+        → Left (p .0) st m r′ (called st p k)
+    left-by k m r′ outcome x row own =
+        let e = called-is k in
+        record {
+          outcome = ap (λ (a : Answer). a .outcome) e ∙ outcome;
+          x = ap (λ (a : Answer). a .state .x) e ∙ x;
+          moved = record {
+            frame = frame st p k;
+            row = ap (λ (a : Answer). rowAt (a .state) (p .0)) e ∙ row;
+            own = ap (λ (a : Answer). recordAt (a .state) (p .0)) e ∙ own;
+          };
+        }
 
     -- A request touches p's record alone.
-    asked-is : (request : Request) → called st p (kindOf request) ≡ requested st p request
-    unfolding called
-    asked-is Request.Load = rw (sound-back st (ready .sure), lt-ltb (p .0) (st .n) l)
-    asked-is (Request.Store v) = rw (sound-back st (ready .sure), lt-ltb (p .0) (st .n) l)
-    asked-is Request.Check = rw (sound-back st (ready .sure), lt-ltb (p .0) (st .n) l)
-
-    asked-parts : (request : Request)
-        → (requested st p request .outcome ≡ requestOf (st .s) (recordAt st (p .0)) request .outcome) × (requested st p request .state .x ≡ st .x)
-        × (rowAt (requested st p request .state) (p .0) ≡ rowAt st (p .0))
-        × (recordAt (requested st p request .state) (p .0) ≡ requestOf (st .s) (recordAt st (p .0)) request .own)
-    unfolding requested
-    asked-parts request =
-        (refl, refl, refl, getD-set-same (st .records) (p .0) (requestOf (st .s) (recordAt st (p .0)) request .own) noRecord (omega (arith, sixteen, ready .full .records)))
-
     pub asked-left : (request : Request)
-        → (called st p (kindOf request) .outcome ≡ requestOf (st .s) (recordAt st (p .0)) request .outcome) × (called st p (kindOf request) .state .x ≡ st .x)
-        × Moved (p .0) st (called st p (kindOf request) .state) (rowAt st (p .0)) (requestOf (st .s) (recordAt st (p .0)) request .own)
+        → Left (p .0) st (withParts (st .x) (rowAt st (p .0)) (requestOf (st .s) (recordAt st (p .0)) request)) (rowAt st (p .0)) (called st p (Ask request))
+    unfolding entered
     asked-left request =
-        let e = asked-is request in
-        let parts = asked-parts request in (
-          ap (λ (a : Answer). a .outcome) e ∙ parts .0,
-          ap (λ (a : Answer). a .state .x) e ∙ parts .1,
-          record {
-            frame = frame st p (kindOf request);
-            row = ap (λ (a : Answer). rowAt (a .state) (p .0)) e ∙ parts .2;
-            own = ap (λ (a : Answer). recordAt (a .state) (p .0)) e ∙ parts .3;
-          },
-        )
+        let m = withParts (st .x) (rowAt st (p .0)) (requestOf (st .s) (recordAt st (p .0)) request) in
+        left-by (Ask request) m (rowAt st (p .0)) refl refl (row-kept st p p m refl (p .0)) (record-same st p p m (omega (arith, sixteen, ready .full .records)))
 
     -- A step hands back the row that it was given. If that is another's it is as it was, and so p's own is.
     row-law : (place : Place)
-        → getD (set (st .rows) (reachedAt p (recordAt st (p .0) .kept) place .0) (stepFrom st p place .row)) (p .0) noRow
-        ≡ rowLeft place (rowAt st (p .0)) (stepFrom st p place)
-    row-law Idle = rw set-getD
-    row-law Load1 = rw set-getD
-    row-law Load2 = rw set-getD
+        → rowAt (withEntry st p (reachedAt p (recordAt st (p .0) .kept) place) (stepFrom st p place)) (p .0) ≡ rowLeft place (rowAt st (p .0)) (stepFrom st p place)
+    row-law Idle = row-kept st p p (stepFrom st p Idle) refl (p .0)
+    row-law Load1 = row-kept st p p (stepFrom st p Load1) refl (p .0)
+    row-law Load2 = row-kept st p (recordAt st (p .0) .kept .process) (stepFrom st p Load2) refl (p .0)
     row-law (Load3 v) =
-        let q = recordAt st (p .0) .kept .process .0 in
-        either-way (λ m. getD (set (st .rows) q (m .row)) (p .0) noRow ≡ rowAt st (p .0))
-        (isNear (rowAt st q .«old_number») (recordAt st (p .0) .kept .number .0)) (rw set-getD) (rw set-getD)
-    row-law Load5 = rw set-getD
-    row-law (Store7 v) = getD-set-same (st .rows) (p .0) _ noRow (omega (arith, sixteen, ready .full .rows))
+        let q = recordAt st (p .0) .kept .process in
+        row-kept st p q (stepFrom st p (Load3 v))
+        (either-way (λ m. m .row ≡ rowAt st (q .0)) (isNear (rowAt st (q .0) .«old_number») (recordAt st (p .0) .kept .number .0)) refl refl) (p .0)
+    row-law Load5 = row-kept st p (recordAt st (p .0) .kept .process) (stepFrom st p Load5) refl (p .0)
+    row-law (Store7 v) = row-same st p p (stepFrom st p (Store7 v)) (omega (arith, sixteen, ready .full .rows))
     row-law Store8 =
-        either-way (λ m. getD (set (st .rows) (p .0) (m .row)) (p .0) noRow ≡ rowAt st (p .0))
-        (sameTag (st .x) (recordAt st (p .0) .kept)) (rw set-getD) (rw set-getD)
-    row-law Store9 = getD-set-same (st .rows) (p .0) _ noRow (omega (arith, sixteen, ready .full .rows))
-    row-law Store10 = getD-set-same (st .rows) (p .0) _ noRow (omega (arith, sixteen, ready .full .rows))
-    row-law Check14 = rw set-getD
-
-    step-is : called st p kind.Step ≡ stepped st p
-    unfolding called
-    step-is = rw (sound-back st (ready .sure), lt-ltb (p .0) (st .n) l)
+        row-kept st p p (stepFrom st p Store8) (either-way (λ m. m .row ≡ rowAt st (p .0)) (sameTag (st .x) (recordAt st (p .0) .kept)) refl refl) (p .0)
+    row-law Store9 = row-same st p p (stepFrom st p Store9) (omega (arith, sixteen, ready .full .rows))
+    row-law Store10 = row-same st p p (stepFrom st p Store10) (omega (arith, sixteen, ready .full .rows))
+    row-law Check14 = row-kept st p p (stepFrom st p Check14) refl (p .0)
 
     abbrev place : Place
     place = recordAt st (p .0) .place
 
     small : leb (recordAt st (p .0) .next .0) largestNext ≡ true
-    small = le-leb (recordAt st (p .0) .next .0) largestNext (omega (arith, ready .sure .each (p .0) l .high, range-of (st .n) (st .s) (ready .sure .range) .last))
+    small = le-leb (recordAt st (p .0) .next .0) largestNext (omega (arith, sure ready .each (p .0) l .high, range-of (st .n) (st .s) (sure ready .range) .last))
 
     step-parts :
-        (stepped st p .outcome ≡ stepFrom st p place .outcome) × (stepped st p .state .x ≡ stepFrom st p place .x)
-        × (rowAt (stepped st p .state) (p .0) ≡ rowLeft place (rowAt st (p .0)) (stepFrom st p place))
-        × (recordAt (stepped st p .state) (p .0) ≡ stepFrom st p place .own)
-    unfolding stepped stepOf
+        (entered st p Step .outcome ≡ stepFrom st p place .outcome) × (entered st p Step .state .x ≡ stepFrom st p place .x)
+        × (rowAt (entered st p Step .state) (p .0) ≡ rowLeft place (rowAt st (p .0)) (stepFrom st p place))
+        × (recordAt (entered st p Step .state) (p .0) ≡ stepFrom st p place .own)
+    unfolding entered stepOf
     step-parts =
         rw small
-        (refl, refl, row-law place, getD-set-same (st .records) (p .0) (stepFrom st p place .own) noRecord (omega (arith, sixteen, ready .full .records)))
+        (refl, refl, row-law place, record-same st p (reachedAt p (recordAt st (p .0) .kept) place) (stepFrom st p place) (omega (arith, sixteen, ready .full .records)))
 
-    pub step-left : Left (p .0) st (stepFrom st p place) (rowLeft place (rowAt st (p .0)) (stepFrom st p place)) (called st p kind.Step)
+    pub step-left : Left (p .0) st (stepFrom st p place) (rowLeft place (rowAt st (p .0)) (stepFrom st p place)) (called st p Step)
     step-left =
-        let e = step-is in
         let parts = step-parts in
-        record {
-          outcome = ap (λ (a : Answer). a .outcome) e ∙ parts .0;
-          x = ap (λ (a : Answer). a .state .x) e ∙ parts .1;
-          moved = record {
-            frame = frame st p kind.Step;
-            row = ap (λ (a : Answer). rowAt (a .state) (p .0)) e ∙ parts .2;
-            own = ap (λ (a : Answer). recordAt (a .state) (p .0)) e ∙ parts .3;
-          };
-        }
+        left-by Step (stepFrom st p place) (rowLeft place (rowAt st (p .0)) (stepFrom st p place)) (parts .0) (parts .1) (parts .2) (parts .3)

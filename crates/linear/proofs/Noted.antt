@@ -1,55 +1,59 @@
--- An entry's note by its outcome and whether X changed, and what the turned-away outcomes say.
+-- An entry's record by its outcome, the item that it tells, and that an entry which is turned away tells nothing.
 -- Assumes nothing.
-use mathlib.Core.Path.{_≡_, refl, sym, subst}
-use mathlib.Core.Bool.{Bool, true}
-use lib.Dec.{T}
+use Prim.Native.Nat.{ℕ, _≤_}
+use mathlib.Core.Path.{_≡_, refl}
+use mathlib.Core.Bool.{true, false≢true}
+use native.Mathlib.Omega.{arith}
+use lib.Dec.{leb}
+use lib.ListN.{List·getD-eq-default}
+use borrow.Author.Tests.{leb-true, ne-eqb}
+use Rattle.numbers.specs.declared.Process.{Process}
 use Rattle.step.specs.Outcomes.{toldOf}
-use Rattle.step.specs.declared.Process.{Process}
+use Rattle.step.specs.declared.Entry.{Entry}
+use Rattle.step.specs.declared.Kind.{Kind}
+use Rattle.step.specs.declared.Kind.the-variants.{Ask, Step}
 use Rattle.step.specs.declared.Outcome.{Outcome}
 use Rattle.step.specs.declared.Outcome.the-variants.{Taken, GoesOn, Current, Old, Done, NotDone, Yes, No, NoProcess, CallOpen, UsedUp, NoCall, Unsound}
-use Rattle.machine.specs.Run.{Entry, Note, turnedAway, stepsOf}
+use Rattle.machine.specs.Run.{turnedAway, stepsOf}
 use Rattle.machine.specs.declared.State.{State}
-use Rattle.machine.specs.declared.Kind.{Kind}
-use Rattle.machine.specs.declared.Kind.the-variants as kind
-use Rattle.linear.specs.Calls.{Calls, goOn}
+use Rattle.log.specs.declared.Note.{Note}
+use Rattle.word.specs.Calls.{Item, away}
+use Rattle.linear.specs.Demand3.{stepItems, itemBy}
 
 abbrev pub entryOf : Process → Kind → Entry
 entryOf p k = record { process = p; kind = k }
 
-abbrev pub noteWith : State → Process → Kind → Outcome → Bool → Note
-noteWith st p k o b =
-    record {
-      outcome = toldOf o .number;
-      process = p .0;
-      steps = stepsOf st p k o;
-      mark = toldOf o .mark;
-      value = toldOf o .value;
-      changed = b;
-    }
+abbrev pub noteWith : State → Process → Kind → Outcome → Note
+noteWith st p k o =
+    record { outcome = toldOf o .number; process = p .0; steps = stepsOf st p k o; mark = toldOf o .mark; value = toldOf o .value }
 
--- the calls after it
-abbrev pub goneOn : State → Calls → Process → Kind → Outcome → Bool → Calls
-goneOn st c p k o b = goOn c (entryOf p k) (noteWith st p k o b)
+-- what came of it
+abbrev pub came : State → Process → Kind → Outcome → Item ℕ
+came st p k o = itemBy (p .0) k (noteWith st p k o)
 
--- a refused entry has no steps
+-- an outcome of 11 or more tells nothing, and counts no step
+pub item-away : (p : ℕ) (k : Kind) (w : Note) → leb 11 (w .outcome) ≡ true → itemBy p k w ≡ away
+item-away p (Ask request) w e = rw (ne-eqb (w .outcome) 0 (λ z. omega (arith, z, leb-true 11 (w .outcome) e)))
+item-away p Step w e =
+    let past : 7 ≤ w .outcome = omega (arith, leb-true 11 (w .outcome) e) in
+    List·getD-eq-default (stepItems p (w .value)) away past
+
 pub away-steps : (st : State) (p : Process) (k : Kind) (o : Outcome) → turnedAway o ≡ true → stepsOf st p k o ≡ 0
-away-steps st p kind.Load o e = refl
-away-steps st p (kind.Store v) o e = refl
-away-steps st p kind.Check o e = refl
-away-steps st p kind.Step o e = rw e
+away-steps st p (Ask request) o e = refl
+away-steps st p Step o e = rw e
 
--- what holds of the five outcomes that turn away
-pub by-away : (P : Outcome → Type 0) → P NoProcess → P CallOpen → P UsedUp → P NoCall → P Unsound → (o : Outcome) → turnedAway o ≡ true → P o
-by-away P a b c d f Taken e = absurd (subst T (sym e) tt)
-by-away P a b c d f GoesOn e = absurd (subst T (sym e) tt)
-by-away P a b c d f (Current v) e = absurd (subst T (sym e) tt)
-by-away P a b c d f (Old v) e = absurd (subst T (sym e) tt)
-by-away P a b c d f Done e = absurd (subst T (sym e) tt)
-by-away P a b c d f NotDone e = absurd (subst T (sym e) tt)
-by-away P a b c d f Yes e = absurd (subst T (sym e) tt)
-by-away P a b c d f No e = absurd (subst T (sym e) tt)
-by-away P a b c d f NoProcess e = a
-by-away P a b c d f CallOpen e = b
-by-away P a b c d f UsedUp e = c
-by-away P a b c d f NoCall e = d
-by-away P a b c d f Unsound e = f
+-- nor has it a mark or a value
+pub away-plain : (o : Outcome) → turnedAway o ≡ true → (toldOf o .mark ≡ 0) × (toldOf o .value ≡ 0)
+away-plain Taken e = (refl, refl)
+away-plain GoesOn e = (refl, refl)
+away-plain (Current v) e = absurd (false≢true e)
+away-plain (Old v) e = absurd (false≢true e)
+away-plain Done e = (refl, refl)
+away-plain NotDone e = (refl, refl)
+away-plain Yes e = (refl, refl)
+away-plain No e = (refl, refl)
+away-plain NoProcess e = (refl, refl)
+away-plain CallOpen e = (refl, refl)
+away-plain UsedUp e = (refl, refl)
+away-plain NoCall e = (refl, refl)
+away-plain Unsound e = (refl, refl)

@@ -1,20 +1,88 @@
--- Demand 3 of every file: an accepted file's run starts from a start in range, so it is a run as `demand-3` has it.
+-- Demand 3 of every file and its log: the log's bytes read back are the notes of the file's run, which starts from a start in range.
 -- Assumes nothing.
-use Prim.Native.Nat.{ℕ}
-use mathlib.Core.Path.{_≡_, sym, subst}
-use mathlib.Core.List.{List}
-use Rattle.machine.specs.Run.{notes}
+use Prim.Native.Nat.{ℕ, zero, suc, _^_, _≤_, _<_}
+use mathlib.Core.Path.{_≡_, refl, sym, ap, _∙_, subst₂}
+use mathlib.Core.Bool.{false}
+use mathlib.Core.List.{List, [], _∷_, _++_, map, append-assoc}
+use native.Mathlib.Omega.{arith}
+use lib.ListN.{length, getD, drop, length-map}
+use borrow.Author.Tests.{le-leb}
+use Rattle.machine.specs.Run.{Note, notes, changeCount}
 use Rattle.machine.specs.Opening.{firstState}
-use Rattle.machine.specs.declared.State.{State}
-use Rattle.bench.specs.Asked.{askedOf}
-use Rattle.bench.specs.Bench.{startState, notesOf}
-use Rattle.bench.proofs.WholeRun.{range, start-is}
+use Rattle.machine.proofs.RunLaws.{notes-length, count-most}
+use Rattle.machine.proofs.Values.{values-below}
+use Rattle.schedule.specs.File.{reading, fileEntries}
+use Rattle.schedule.specs.declared.Reading.the-variants.{Accepted}
+use Rattle.schedule.proofs.Accepted.{accepted-answer}
+use Rattle.log.specs.Log.{headOf, recordsOf, logOf, logLength, headIn, notesIn}
+use Rattle.log.specs.declared.Head.{Head}
+use Rattle.log.specs.declared.Note as log
+use Rattle.log.proofs.Back.{head-in, notes-back}
+use Rattle.bench.specs.Play.{inLog}
+use Rattle.bench.specs.Bench.{notesOf, logAfter}
+use Rattle.bench.proofs.WholeRun.{range, start-is, entry-count, few-entries}
+use Rattle.word.specs.Order.{Every}
 use Rattle.linear.specs.Demand3.{Demand3}
-use Rattle.linear.specs.OfFile.{Demand3OfFile}
+use Rattle.linear.specs.OfFile.{LogOfFile, Demand3OfFile}
 use Rattle.linear.proofs.Demand3.{demand-3}
+use Rattle.linear.proofs.Values.{entries-small, first-small}
+
+-- the record of an entry, by its note
+record-at : (ws : List Note) (i : ℕ) (d : Note) (none : log.Note) → i < length ws → getD (map inLog ws) i none ≡ inLog (getD ws i d)
+record-at [] i d none l = absurd (omega (arith, l))
+record-at (w ∷ ws) zero d none l = refl
+record-at (w ∷ ws) (suc i) d none l = record-at ws i d none (omega (arith, l))
+
+module _ (f : List ℕ) (bytes : Every (λ b. b < 256) f) (n s v c : ℕ) (is : reading f ≡ Accepted n s v c) (lent : List ℕ) (room : logLength c ≤ length lent) where
+  -- the notes of the run, and what lies behind their records
+  abbrev ws : List Note
+  ws = notes (firstState n (record { 0 = s }) v) (fileEntries f)
+
+  abbrev rest : List ℕ
+  rest = drop (logLength (length (notes (firstState n (record { 0 = s }) v) (fileEntries f)))) lent
+
+  as-many : length ws ≡ c
+  as-many = notes-length (firstState n (record { 0 = s }) v) (fileEntries f) ∙ sym (entry-count f n s v c is)
+
+  records-long : length (map inLog ws) ≡ length ws
+  records-long = length-map ws inLog
+
+  log-is : logAfter f lent ≡ logOf (changeCount ws) n (map inLog ws) ++ rest
+  unfolding logAfter notesOf logOf
+  log-is =
+      rw (is, le-leb (logLength c) (length lent) room, start-is f n s v c is, records-long)
+      (sym (append-assoc (headOf (length ws) (changeCount ws) n) (recordsOf (map inLog ws)) rest))
+
+  few : length (map inLog ws) < 2 ^ 32
+  few = omega (arith, records-long, as-many, few-entries f n s v c is)
+
+  few-changes : changeCount ws < 2 ^ 32
+  few-changes = omega (arith, count-most ws, as-many, few-entries f n s v c is)
+
+  values : (i : ℕ) (none : log.Note) → i < length (map inLog ws) → getD (map inLog ws) i none .value < 2 ^ 64
+  values i none l =
+      let there : i < length ws = omega (arith, l, records-long) in
+      rw (record-at ws i no-note none there)
+      (values-below (2 ^ 64) (omega arith) n (record { 0 = s }) v (range f n s v c is) (rw (accepted-answer f is .1 .1 .1 .0) (first-small f bytes)) (fileEntries f) (entries-small f bytes) i no-note there)
+    where
+      no-note : Note
+      no-note = record { outcome = 0; process = 0; steps = 0; mark = 0; value = 0; changed = false }
+
+  head-is : headIn (logAfter f lent) ≡ record { entries = length (map inLog ws); changes = changeCount ws; n = n }
+  head-is = ap headIn log-is ∙ head-in (changeCount ws) n rest (map inLog ws) few few-changes
+
+  notes-are : notesIn (logAfter f lent) ≡ map inLog ws
+  notes-are = ap notesIn log-is ∙ notes-back (changeCount ws) n (map inLog ws) rest few few-changes values
+
+  of-file : LogOfFile n v c f (logAfter f lent)
+  of-file =
+      record {
+        entries = ap (λ (h : Head). h .entries) head-is ∙ records-long ∙ as-many;
+        processes = ap (λ (h : Head). h .n) head-is;
+        calls =
+            subst₂ (λ (k : ℕ) (ws : List log.Note). Demand3 v k (fileEntries f) ws) (sym (ap (λ (h : Head). h .changes) head-is)) (sym notes-are)
+            (demand-3 n (record { 0 = s }) v (range f n s v c is) (fileEntries f));
+      }
 
 pub demand-3-of-files : (f : List ℕ) → Demand3OfFile f
-unfolding notesOf
-demand-3-of-files f n s v c is =
-    subst (λ (st : State). Demand3 v (askedOf f) (notes st (askedOf f))) (sym (start-is f n s v c is))
-    (demand-3 n (record { 0 = s }) v (range f n s v c is) (askedOf f))
+demand-3-of-files f bytes n s v c is log room = of-file f bytes n s v c is log room

@@ -83,13 +83,13 @@ pub record Side (v now : ℕ) (order : List (Call ℕ)) (q t : ℕ) (op : Op ℕ
 abbrev pub SideAt : ℕ → ℕ → List (Call ℕ) → ℕ → ℕ → Op ℕ → Row → Record → Link → Type 0
 SideAt v now order q t op r own sn = Side v now order q t op r (own .next .0) (own .place) sn
 
--- There are changes, places seen and an order such that the order is good, the machine keeps its invariants, the count is the number of
--- changes, and after each change the word had that change's value.
-pub record Sim (v : ℕ) (st : State) (now : ℕ) (asked : ℕ → ℕ) (op : ℕ → Op ℕ) (played : List (Call ℕ)) : Type 0 where
+-- There are changes and an order such that the order is good, the machine keeps its invariants with the latest steps 1, the count is the
+-- number of changes, and after each change the word had that change's value.
+pub record Sim (v : ℕ) (st : State) (now : ℕ) (asked : ℕ → ℕ) (op : ℕ → Op ℕ) (played : List (Call ℕ)) (seen : ℕ → Link) (changes : ℕ) : Type 0 where
   pub h : List Change
-  pub seen : ℕ → Link
   pub order : List (Call ℕ)
   pub good : Good v now order played
+  pub count : total 0 order ≡ changes
   pub inv : Inv st (total 0 order) h seen
   pub vals : (i q k u : ℕ) → At h i q k u → valueAfter 0 i v order ≡ u
   pub sides : (q : ℕ) → q < st .n → SideAt v now order q (asked q) (op q) (rowAt st q) (recordAt st q) (seen q)

@@ -1,58 +1,75 @@
--- The simulation relation holds at the start and goes on by every entry.
+-- The simulation relation holds at the start and goes on by every entry; and a store is done exactly if its process's latest step 1 saw
+-- the newest change.
 -- Assumes nothing.
-use Prim.Native.Nat.{ℕ, _%_, _≤_, _<_}
-use mathlib.Core.Path.{_≡_, refl, sym, ap, _∙_, subst}
-use mathlib.Core.Bool.{Bool, true, false, cond}
+use Prim.Native.Nat.{ℕ, suc, _%_, _≤_, _<_}
+use mathlib.Core.Path.{_≡_, refl, sym, ap, _∙_, subst, subst₂}
+use mathlib.Core.Bool.{Bool, true, false, cond, _&&_, false≢true}
 use mathlib.Core.Logic.{inl, inr}
-use mathlib.Core.List.{[], _∷_, filterMap}
+use mathlib.Core.List.{[], _∷_, _++_, filterMap}
 use native.Mathlib.Omega.{arith}
 use native.Mathlib.Decide.{ℕ-discrete}
+use lib.Dec.{eqb}
+use borrow.Author.Tests.{ne-eqb}
 use lib.Seq.{getD-set-same}
+use Rattle.numbers.specs.Range.{inRange}
+use Rattle.numbers.proofs.Range.{range-of}
+use Rattle.numbers.specs.declared.Process.{Process}
+use Rattle.numbers.specs.declared.Sequence.{Sequence}
+use Rattle.step.specs.Number.{sameTag}
 use Rattle.step.specs.Steps.{at, withSlot}
-use Rattle.step.specs.declared.Process.{Process}
-use Rattle.step.specs.declared.Sequence.{Sequence}
+use Rattle.step.specs.declared.Kind.{Kind}
+use Rattle.step.specs.declared.Kind.the-variants.{Step}
 use Rattle.step.specs.declared.Place.{Place}
 use Rattle.step.specs.declared.Place.the-variants.{Idle, Load1, Load3, Load5, Store7, Store8, Check14}
 use Rattle.step.specs.declared.Outcome.{Outcome}
-use Rattle.machine.specs.State.{inRange, rowAt, recordAt}
+use Rattle.step.specs.declared.Outcome.the-variants.{GoesOn}
+use Rattle.machine.specs.State.{rowAt, recordAt}
 use Rattle.machine.specs.Opening.{firstState}
 use Rattle.machine.specs.Entry.{called}
-use Rattle.machine.specs.Run.{changes}
+use Rattle.machine.specs.Frame.{Ready}
+use Rattle.machine.specs.Run.{turnedAway, changes}
 use Rattle.machine.specs.declared.State.{State}
-use Rattle.machine.specs.declared.Kind.{Kind}
-use Rattle.machine.proofs.Soundness.{range-of}
-use Rattle.machine.proofs.Runs.{Ready}
-use Rattle.word.specs.Word.{none, load, store, check, done, notDone, saysYes, saysNo}
+use Rattle.machine.proofs.Soundness.{sure}
+use Rattle.word.specs.Word.{none, Op, load, store, check, Answer, value, done, notDone, saysYes, saysNo, put, linked}
 use Rattle.word.specs.Word as word
+use Rattle.word.specs.Calls.{Item, Calls, isStore, noCalls, callBy, decides, goOn}
+use Rattle.word.proofs.Put.{split, put-same, put-other}
 use Rattle.word.proofs.Changes.{total, valueAfter}
 use Rattle.word.proofs.Good.{good-start, late-new, Late}
-use Rattle.linear.specs.Calls.{Calls, noCalls}
+use Rattle.linear.specs.Demand3.{stepOfStore}
+use Rattle.linear.specs.Linked.{Marks, noMarks, isLoad, markOn, LinkedAt}
 use Rattle.linear.proofs.Lift.{guard-low}
 use Rattle.linear.proofs.History.{At}
 use Rattle.linear.proofs.Invariant.{slotOf}
-use Rattle.linear.proofs.Consequences.{place-low, old-place}
+use Rattle.linear.proofs.Consequences.{place-low, old-place, tag-test}
 use Rattle.linear.proofs.Moved.{tag-below}
 use Rattle.linear.proofs.Kept.{one-at, seen-at, kept-calm, kept-1, kept-2, kept-3, kept-7, kept-8, kept-9, kept-10}
 use Rattle.linear.proofs.Start.{idle-start, firstChange, inv-start}
 use Rattle.linear.proofs.Side.{LinkOk, LateFor, Side, SideAt, Sim, way-same, undecided-on, loading-on}
-use Rattle.linear.proofs.Join.{sim-tick, side-at, sim-quiet, sim-request, sim-load, agree, sim-append, sim-done}
+use Rattle.linear.proofs.Join.{sim-tick, side-at, sim-quiet, sim-still, sim-request, sim-load, agree, sim-append, sim-done}
 use Rattle.linear.proofs.Cases.{Cases, by-cases}
-use Rattle.linear.proofs.Noted.{goneOn, by-away}
+use Rattle.linear.proofs.Noted.{noteWith, came, item-away}
+use Rattle.linear.proofs.Known.{KnownIn, known-at, decides-at, load-stores}
 
-abbrev pub Simulated : ℕ → State → Calls → Type 0
-Simulated v st c = Sim v st (c .now) (c .asked) (c .op) (c .played)
+-- the calls, the marks, and that every call is on word 0
+pub record Simulated (v : ℕ) (st : State) (c : Calls ℕ) (m : Marks) : Type 0 where
+  pub sim : Sim v st (c .now) (c .asked) (c .op) (c .played) (m .latest) (m .changes)
+  pub one : (q : ℕ) → c .word q ≡ 0
 
-pub sim-start : (n : ℕ) (s : Sequence) (v : ℕ) → inRange n s ≡ true → Simulated v (firstState n s v) noCalls
+pub sim-start : (n : ℕ) (s : Sequence) (v : ℕ) → inRange n s ≡ true → Simulated v (firstState n s v) noCalls noMarks
 unfolding filterMap
 sim-start n s v e =
     record {
-      h = firstChange v ∷ [];
-      seen = λ q. none;
-      order = [];
-      good = good-start v;
-      inv = inv-start n s v e;
-      vals = vals;
-      sides = λ q l. sides q (omega (arith, l, range-of n s e .few));
+      sim = record {
+        h = firstChange v ∷ [];
+        order = [];
+        good = good-start v;
+        count = refl;
+        inv = inv-start n s v e;
+        vals = vals;
+        sides = λ q l. sides q (omega (arith, l, range-of n s e .few));
+      };
+      one = λ q. refl;
     }
   where
     vals : (i q k u : ℕ) → At (firstChange v ∷ []) i q k u → valueAfter 0 i v [] ≡ u
@@ -72,75 +89,211 @@ link-here t i le = go (ℕ-discrete i t)
     go (yes e) = inl (ap word.at e, ap word.at e)
     go (no ne) = inr (omega (arith, le, ne), omega (arith, le, ne))
 
-module _ {v : ℕ} {st : State} (c : Calls) (s : Simulated v st c) (ready : Ready st) (p : Process) where
-  abbrev Next : Kind → State → Outcome → Bool → Type 0
-  Next k st′ o b = Simulated v st′ (goneOn st c p k o b)
+-- a store is no load
+store-no-load : (o : Op ℕ) → isStore o ≡ true → isLoad o ≡ false
+store-no-load load e = absurd (false≢true e)
+store-no-load (store u) e = refl
+store-no-load check e = absurd (false≢true e)
+
+and-no : (b : Bool) → (b && false) ≡ false
+and-no true = refl
+and-no false = refl
+
+module _ {v : ℕ} {st : State} (c : Calls ℕ) (m : Marks) (simulated : Simulated v st c m) (known : KnownIn st c) (ready : Ready st) (p : Process) where
+  abbrev pub Next : Kind → State → Outcome → Bool → Type 0
+  Next k st′ o b = Simulated v st′ (goOn stepOfStore c (came st p k o)) (markOn c m (came st p k o)) × LinkedAt c m (came st p k o)
+
+  abbrev s : Sim v st (c .now) (c .asked) (c .op) (c .played) (m .latest) (m .changes)
+  s = simulated .sim
+
+  away-next : (k : Kind) (o : Outcome) → turnedAway o ≡ true → Next k st o false
+  away-next k o e =
+      subst (λ (i : Item ℕ). Simulated v st (goOn stepOfStore c i) (markOn c m i) × LinkedAt c m i) (sym (item-away (p .0) k (noteWith st p k o) e))
+      (record { sim = sim-tick s; one = simulated .one }, tt)
+
+  -- a request is on word 0
+  asked-one : (q : ℕ) → put (p .0) 0 (c .word) q ≡ 0
+  asked-one = split (λ q. put (p .0) 0 (c .word) q ≡ 0) (p .0) (put-same (p .0) 0 (c .word)) (λ q ne. put-other (p .0) 0 (c .word) q ne ∙ simulated .one q)
+
+  -- a call that is played on word 0 is played on its own
+  on-own-word : {st′ : State} {now : ℕ} {changes : ℕ} (o : Op ℕ) (a : Answer ℕ)
+      → Sim v st′ now (c .asked) (c .op) (c .played ++ record { asked = c .asked (p .0); decided = c .now; process = p .0; word = 0; op = o; answer = a } ∷ []) (m .latest) changes
+      → Sim v st′ now (c .asked) (c .op) (c .played ++ record { asked = c .asked (p .0); decided = c .now; process = p .0; word = c .word (p .0); op = o; answer = a } ∷ []) (m .latest) changes
+  on-own-word {st′} {now} {changes} o a =
+      subst
+      (λ (w : ℕ). Sim v st′ now (c .asked) (c .op) (c .played ++ record { asked = c .asked (p .0); decided = c .now; process = p .0; word = w; op = o; answer = a } ∷ []) (m .latest) changes)
+      (sym (simulated .one (p .0)))
+
+  -- a step after which the call goes on: whether it decides a store (d), and whether it is a load's first (f)
+  goes-on : {st′ : State} (d f : Bool) → decides stepOfStore c (p .0) ≡ d → (isLoad (c .op (p .0)) && eqb (c .steps (p .0)) 0) ≡ f
+      → Sim v st′ (suc (c .now)) (c .asked) (c .op) (cond d (c .played ++ callBy c (p .0) done ∷ []) (c .played))
+      (cond f (put (p .0) (word.at (m .changes)) (m .latest)) (m .latest)) (cond d (suc (m .changes)) (m .changes))
+      → (d ≡ true → linked (m .latest (p .0)) (m .changes) ≡ true)
+      → Next Step st′ GoesOn d
+  goes-on {st′} d f e g sim right = (
+    record {
+      sim =
+          subst₂
+          (λ (d f : Bool). Sim v st′ (suc (c .now)) (c .asked) (c .op) (cond d (c .played ++ callBy c (p .0) done ∷ []) (c .played))
+          (cond f (put (p .0) (word.at (m .changes)) (m .latest)) (m .latest)) (cond d (suc (m .changes)) (m .changes)))
+          (sym e) (sym g) sim;
+      one = simulated .one;
+    },
+    λ t. right (sym e ∙ t),
+  )
 
   module _ (l : p .0 < st .n) where
+    -- a load's step that goes on, its rank not 1; a store's that decides nothing
+    load-goes : {st′ : State} (n : ℕ) → c .op (p .0) ≡ load → suc (c .steps (p .0)) ≡ suc (suc n)
+        → Sim v st′ (suc (c .now)) (c .asked) (c .op) (c .played) (m .latest) (m .changes) → Next Step st′ GoesOn false
+    load-goes n o k sim =
+        let later : eqb (c .steps (p .0)) 0 ≡ false = ne-eqb (c .steps (p .0)) 0 (λ z. omega (arith, k, z)) in
+        goes-on false false (decides-at c (p .0) (suc (suc n)) false (load-stores o) k)
+        (ap (λ (b : Bool). isLoad (c .op (p .0)) && b) later ∙ and-no (isLoad (c .op (p .0)))) sim (λ t. absurd (false≢true t))
+
+    store-goes : {st′ : State} (n : ℕ) → (true && eqb n stepOfStore) ≡ false → isStore (c .op (p .0)) ≡ true → suc (c .steps (p .0)) ≡ n
+        → Sim v st′ (suc (c .now)) (c .asked) (c .op) (c .played) (m .latest) (m .changes) → Next Step st′ GoesOn false
+    store-goes n other o k sim =
+        goes-on false false (decides-at c (p .0) n true o k ∙ other)
+        (ap (λ (b : Bool). b && eqb (c .steps (p .0)) 0) (store-no-load (c .op (p .0)) o)) sim (λ t. absurd (false≢true t))
+
     cases : Cases Next st (p .0)
     cases =
         record {
-          asks-load = λ e st′ x m.
-              sim-request s (p .0) l load m (kept-calm st (p .0) (s .inv) l Idle Load1 e refl refl m x tt)
-              (λ und. record { link = side-at s (p .0) l e .link; call = und });
-          asks-store = λ u e st′ x m.
-              sim-request s (p .0) l (store u) m (kept-calm st (p .0) (s .inv) l Idle (Store7 u) e refl refl m x tt)
-              (λ und. record { link = side-at s (p .0) l e .link; call = und });
-          asks-check = λ e st′ x m.
-              sim-request s (p .0) l check m (kept-calm st (p .0) (s .inv) l Idle Check14 e refl refl m x tt)
-              (λ und. record { link = side-at s (p .0) l e .link; call = und });
-          step-1 = λ e st′ x m.
-              sim-quiet s (p .0) l (word.at (total 0 (s .order))) m (kept-1 st (p .0) (s .inv) l e m x)
-              (record { link = tt; call = (undecided-on (way-same v (c .now) (s .order) (p .0)) (side-at s (p .0) l e .call), first-seen) });
-          step-2 = λ e st′ x m.
-              sim-quiet s (p .0) l (s .seen (p .0)) m (kept-2 st (p .0) (s .inv) l (tag-below st (p .0) ready l) e m x)
-              (record { link = tt; call = loading-on (way-same v (c .now) (s .order) (p .0)) (side-at s (p .0) l e .call) });
-          step-3-answers = λ u e near st′ x m.
+          asks-load = λ e st′ x mv. (
+            record {
+              sim =
+                  sim-request s (p .0) l load mv (kept-calm st (p .0) (s .inv) l Idle Load1 e refl refl mv x tt)
+                  (λ und. record { link = side-at s (p .0) l e .link; call = und });
+              one = asked-one;
+            },
+            tt,
+          );
+          asks-store = λ u e st′ x mv. (
+            record {
+              sim =
+                  sim-request s (p .0) l (store u) mv (kept-calm st (p .0) (s .inv) l Idle (Store7 u) e refl refl mv x tt)
+                  (λ und. record { link = side-at s (p .0) l e .link; call = und });
+              one = asked-one;
+            },
+            tt,
+          );
+          asks-check = λ e st′ x mv. (
+            record {
+              sim =
+                  sim-request s (p .0) l check mv (kept-calm st (p .0) (s .inv) l Idle Check14 e refl refl mv x tt)
+                  (λ und. record { link = side-at s (p .0) l e .link; call = und });
+              one = asked-one;
+            },
+            tt,
+          );
+          step-1 = λ e st′ x mv.
+              let o = known-at known (p .0) l e .0 in
+              goes-on false true (decides-at c (p .0) 1 false (load-stores (o .asks)) (o .counted))
+              (ap (λ (j : Op ℕ). isLoad j && eqb (c .steps (p .0)) 0) (o .asks) ∙ ap (λ (j : ℕ). eqb j 0) (none-yet (o .counted)))
+              (subst (λ (t : ℕ). Sim v st′ (suc (c .now)) (c .asked) (c .op) (c .played) (put (p .0) (word.at t) (m .latest)) (m .changes)) (s .count)
+              (sim-quiet s (p .0) l (word.at (total 0 (s .order))) mv (kept-1 st (p .0) (s .inv) l e mv x)
+              (record { link = tt; call = (undecided-on (way-same v (c .now) (s .order) (p .0)) (side-at s (p .0) l e .call), first-seen) })))
+              (λ t. absurd (false≢true t));
+          step-2 = λ e st′ x mv.
+              let o = known-at known (p .0) l e .0 in
+              load-goes 0 (o .asks) (o .counted)
+              (sim-still s (p .0) l mv (kept-2 st (p .0) (s .inv) l (tag-below st (p .0) ready l) e mv x)
+              (record { link = tt; call = loading-on (way-same v (c .now) (s .order) (p .0)) (side-at s (p .0) l e .call) }));
+          step-3-answers = λ u e near st′ x mv.
               let (i, sn, f) = one-at st (p .0) (s .inv) l e .stage in
-              let a = f (guard-low (rowAt st (recordAt st (p .0) .kept .process .0) .«old_number») (recordAt st (p .0) .kept .number .0) near) in
-              sim-load s (p .0) l i i (recordAt st (p .0) .kept .process .0) (recordAt st (p .0) .kept .number .0) u refl m
-              (kept-calm st (p .0) (s .inv) l (Load3 u) Idle e refl refl m x tt)
-              (side-at s (p .0) l e .call .0) (side-at s (p .0) l e .call .1) sn (omega arith) a
-              (link-here (total 0 (s .order)) i (place-low (s .inv) i _ _ _ a));
-          step-3-goes-on = λ u e far st′ x m.
-              sim-quiet s (p .0) l (s .seen (p .0)) m
-              (kept-3 st (p .0) (s .inv) l u (st .s .0) (tag-below st (p .0) ready l) (ready .sure .each (recordAt st (p .0) .kept .process .0) (tag-below st (p .0) ready l) .old) e far m x)
-              (record { link = tt; call = loading-on (way-same v (c .now) (s .order) (p .0)) (side-at s (p .0) l e .call) });
-          step-5 = λ e st′ x m.
+              let a = f (guard-low (rowAt st (recordAt st (p .0) .kept .process .0) .«old_number») (recordAt st (p .0) .kept .number .0) near) in (
+                record {
+                  sim =
+                      on-own-word (c .op (p .0)) (value u)
+                      (sim-load s (p .0) l i i (recordAt st (p .0) .kept .process .0) (recordAt st (p .0) .kept .number .0) u refl mv
+                      (kept-calm st (p .0) (s .inv) l (Load3 u) Idle e refl refl mv x tt)
+                      (side-at s (p .0) l e .call .0) (side-at s (p .0) l e .call .1) sn (omega arith) a
+                      (link-here (total 0 (s .order)) i (place-low (s .inv) i _ _ _ a)));
+                  one = simulated .one;
+                },
+                tt,
+              );
+          step-3-goes-on = λ u e far st′ x mv.
+              let o = known-at known (p .0) l e .0 in
+              load-goes 1 (o .asks) (o .counted)
+              (sim-still s (p .0) l mv
+              (kept-3 st (p .0) (s .inv) l u (st .s .0) (tag-below st (p .0) ready l) (sure ready .each (recordAt st (p .0) .kept .process .0) (tag-below st (p .0) ready l) .old) e far mv x)
+              (record { link = tt; call = loading-on (way-same v (c .now) (s .order) (p .0)) (side-at s (p .0) l e .call) }));
+          step-5 = λ e st′ x mv.
               let (i, sn, high) = one-at st (p .0) (s .inv) l e .stage in
               let (u, a) = seen-at st (p .0) (s .inv) l i sn in
-              let (n, le, lt, j, b) = old-place (s .inv) i (recordAt st (p .0) .kept .process .0) (recordAt st (p .0) .kept .number .0) u (tag-below st (p .0) ready l) a high in
-              sim-load s (p .0) l i n (recordAt st (p .0) .kept .process .0) j _ refl m
-              (kept-calm st (p .0) (s .inv) l Load5 Idle e refl refl m x tt)
-              (side-at s (p .0) l e .call .0) (side-at s (p .0) l e .call .1) sn le b
-              (inr (lt, omega (arith, le, lt)));
-          step-7 = λ u e st′ x m.
+              let (n, le, lt, j, b) = old-place (s .inv) i (recordAt st (p .0) .kept .process .0) (recordAt st (p .0) .kept .number .0) u (tag-below st (p .0) ready l) a high in (
+                record {
+                  sim =
+                      on-own-word (c .op (p .0)) (value _)
+                      (sim-load s (p .0) l i n (recordAt st (p .0) .kept .process .0) j _ refl mv
+                      (kept-calm st (p .0) (s .inv) l Load5 Idle e refl refl mv x tt)
+                      (side-at s (p .0) l e .call .0) (side-at s (p .0) l e .call .1) sn le b
+                      (inr (lt, omega (arith, le, lt))));
+                  one = simulated .one;
+                },
+                tt,
+              );
+          step-7 = λ u e st′ x mv.
+              let o = known-at known (p .0) l e .0 in
               let und = undecided-on (way-same v (c .now) (s .order) (p .0)) (side-at s (p .0) l e .call) in
-              sim-quiet s (p .0) l (s .seen (p .0)) m (kept-7 st (p .0) (s .inv) l u e m x)
+              store-goes 1 refl (o .asks) (o .counted)
+              (sim-still s (p .0) l mv (kept-7 st (p .0) (s .inv) l u e mv x)
               (record {
                 link = side-at s (p .0) l e .link;
                 call = record { kind = und .kind ∙ ap store (sym (written u)); before = und .before; own = und .own };
-              });
-          step-8-done = λ e same st′ x m.
-              sim-done s (p .0) l refl m (kept-8 st (p .0) (s .inv) l e x m) (side-at s (p .0) l e .call) (side-at s (p .0) l e .link) same;
-          step-8-not-done = λ e other st′ x m.
-              sim-append s (p .0) l (store (slotOf (rowAt st (p .0)) (recordAt st (p .0) .next .0))) notDone refl m
-              (kept-calm st (p .0) (s .inv) l Store8 Idle e refl refl m x tt) (side-at s (p .0) l e .call) tt refl (side-at s (p .0) l e .link)
-              (ap (λ (b : Bool). cond b done notDone) (agree s (p .0) l (side-at s (p .0) l e .link) ∙ other));
-          step-9 = λ e st′ x m.
-              sim-quiet s (p .0) l (s .seen (p .0)) m (kept-9 st (p .0) (s .inv) l e m x)
-              (record { link = side-at s (p .0) l e .link; call = tt });
-          step-10 = λ e st′ x m.
-              sim-quiet s (p .0) l (s .seen (p .0)) m (kept-10 st (p .0) (s .inv) l e m x)
-              (record { link = side-at s (p .0) l e .link; call = tt });
-          step-14-yes = λ e same st′ x m.
-              sim-append s (p .0) l check saysYes refl m
-              (kept-calm st (p .0) (s .inv) l Check14 Idle e refl refl m x tt) (side-at s (p .0) l e .call) tt refl (side-at s (p .0) l e .link)
-              (ap (λ (b : Bool). cond b saysYes saysNo) (agree s (p .0) l (side-at s (p .0) l e .link) ∙ same));
-          step-14-no = λ e other st′ x m.
-              sim-append s (p .0) l check saysNo refl m
-              (kept-calm st (p .0) (s .inv) l Check14 Idle e refl refl m x tt) (side-at s (p .0) l e .call) tt refl (side-at s (p .0) l e .link)
-              (ap (λ (b : Bool). cond b saysYes saysNo) (agree s (p .0) l (side-at s (p .0) l e .link) ∙ other));
+              }));
+          step-8-done = λ e same st′ x mv.
+              let o = known-at known (p .0) l e .0 in
+              goes-on true false (decides-at c (p .0) 2 true (o .asks) (o .counted)) (ap (λ (b : Bool). b && eqb (c .steps (p .0)) 0) (store-no-load (c .op (p .0)) (o .asks)))
+              (on-own-word (c .op (p .0)) done
+              (sim-done s (p .0) l refl mv (kept-8 st (p .0) (s .inv) l e x mv) (side-at s (p .0) l e .call) (side-at s (p .0) l e .link) same))
+              (λ t. tested same);
+          step-8-not-done = λ e other st′ x mv. (
+            record {
+              sim =
+                  on-own-word (c .op (p .0)) notDone
+                  (sim-append s (p .0) l (store (slotOf (rowAt st (p .0)) (recordAt st (p .0) .next .0))) notDone refl mv
+                  (kept-calm st (p .0) (s .inv) l Store8 Idle e refl refl mv x tt) (side-at s (p .0) l e .call) tt refl (side-at s (p .0) l e .link)
+                  (ap (λ (b : Bool). cond b done notDone) (agree s (p .0) l (side-at s (p .0) l e .link) ∙ other)));
+              one = simulated .one;
+            },
+            tested other,
+          );
+          step-9 = λ e st′ x mv.
+              let o = known-at known (p .0) l e .0 in
+              store-goes 3 refl (o .asks) (o .counted)
+              (sim-still s (p .0) l mv (kept-9 st (p .0) (s .inv) l e mv x) (record { link = side-at s (p .0) l e .link; call = tt }));
+          step-10 = λ e st′ x mv. (
+            record {
+              sim = sim-still s (p .0) l mv (kept-10 st (p .0) (s .inv) l e mv x) (record { link = side-at s (p .0) l e .link; call = tt });
+              one = simulated .one;
+            },
+            tt,
+          );
+          step-14-yes = λ e same st′ x mv. (
+            record {
+              sim =
+                  on-own-word (c .op (p .0)) saysYes
+                  (sim-append s (p .0) l check saysYes refl mv
+                  (kept-calm st (p .0) (s .inv) l Check14 Idle e refl refl mv x tt) (side-at s (p .0) l e .call) tt refl (side-at s (p .0) l e .link)
+                  (ap (λ (b : Bool). cond b saysYes saysNo) (agree s (p .0) l (side-at s (p .0) l e .link) ∙ same)));
+              one = simulated .one;
+            },
+            tt,
+          );
+          step-14-no = λ e other st′ x mv. (
+            record {
+              sim =
+                  on-own-word (c .op (p .0)) saysNo
+                  (sim-append s (p .0) l check saysNo refl mv
+                  (kept-calm st (p .0) (s .inv) l Check14 Idle e refl refl mv x tt) (side-at s (p .0) l e .call) tt refl (side-at s (p .0) l e .link)
+                  (ap (λ (b : Bool). cond b saysYes saysNo) (agree s (p .0) l (side-at s (p .0) l e .link) ∙ other)));
+              one = simulated .one;
+            },
+            tt,
+          );
         }
       where
         -- from the newest change on nothing stands yet
@@ -153,11 +306,15 @@ module _ {v : ℕ} {st : State} (c : Calls) (s : Simulated v st c) (ready : Read
         written : (u : ℕ) → slotOf (withSlot (rowAt st (p .0)) (recordAt st (p .0) .next) u) (recordAt st (p .0) .next .0) ≡ u
         written u =
             getD-set-same (rowAt st (p .0) .slots) (recordAt st (p .0) .next .0 % 2) u 0
-            (omega (arith, ready .full .slots (p .0) (omega (arith, l, range-of (st .n) (st .s) (ready .sure .range) .few))))
+            (omega (arith, ready .full .slots (p .0) (omega (arith, l, range-of (st .n) (st .s) (sure ready .range) .few))))
+
+        none-yet : suc (c .steps (p .0)) ≡ 1 → c .steps (p .0) ≡ 0
+        none-yet k = omega (arith, k)
+
+        -- X is the kept tag exactly if what was seen is the newest change
+        tested : {b : Bool} → sameTag (st .x) (recordAt st (p .0) .kept) ≡ b → linked (m .latest (p .0)) (m .changes) ≡ b
+        tested {b} t = ap (linked (m .latest (p .0))) (sym (s .count)) ∙ sym (tag-test (s .inv) (p .0) l) ∙ t
 
   -- Every entry carries the relation on.
   pub sim-entry : (k : Kind) → Next k (called st p k .state) (called st p k .outcome) (changes st (called st p k .state))
-  sim-entry k =
-      by-cases Next st p ready (s .inv .following)
-      (λ j o e. by-away (λ o. Next j st o false) (sim-tick s) (sim-tick s) (sim-tick s) (sim-tick s) (sim-tick s) o e)
-      cases k
+  sim-entry k = by-cases Next st p ready (s .inv .following) away-next cases k

@@ -8,13 +8,14 @@ use mathlib.Core.List.{[], _∷_}
 use native.Mathlib.Omega.{arith}
 use lib.IntN.{pos, negsuc}
 use lib.ListN.{getD-replicate}
-use Rattle.step.specs.declared.Sequence.{Sequence}
+use Rattle.numbers.specs.declared.Sequence.{Sequence}
 use Rattle.step.specs.declared.Row.{Row}
 use Rattle.step.specs.declared.Record.{Record}
 use Rattle.step.specs.declared.Place.the-variants.{Idle}
-use Rattle.machine.specs.State.{inRange, rowAt, recordAt, noRow, noRecord}
+use Rattle.numbers.specs.Range.{inRange}
+use Rattle.machine.specs.State.{rowAt, recordAt, noRow, noRecord}
 use Rattle.machine.specs.Opening.{firstRow, firstRecord, firstState}
-use Rattle.machine.proofs.Soundness.{range-of}
+use Rattle.numbers.proofs.Range.{range-of}
 use Rattle.word.specs.Word.{none}
 use Rattle.linear.proofs.History.{Change, At}
 use Rattle.linear.proofs.Invariant.{slotOf, OneAt, Inv}

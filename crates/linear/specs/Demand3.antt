@@ -1,77 +1,118 @@
--- Demand 3: "the calls that were answered, with the stores that have already changed the word, can be put in one order" that the atomic
--- linked word plays, and the counts of the log. `Demand3 v es ws` speaks of a run of the entries es with the notes ws, from first value
--- v. The calls are those of specs/Calls.antt; the word, and what an order must keep, are those of word/specs.
+-- Demand 3 of a log: its records are read beside the entries that they are of, and with the head's count of changes they say what the
+-- atomic linked word of word/specs says. No state of the machine stands in it.
 -- Assumes nothing.
-use Prim.Native.Nat.{ℕ, suc, _≤_, _<_}
+use Prim.Native.Nat.{ℕ, suc, _-_, _≤_}
 use mathlib.Core.Path.{_≡_}
-use mathlib.Core.Bool.{Bool, true, false, cond}
+use mathlib.Core.Bool.{true, cond}
 use mathlib.Core.Logic.{_⊎_}
-use mathlib.Core.List.{List, [], _∷_, List·Memᴰ}
-use Rattle.machine.specs.Run.{Entry, Note, changeCount}
-use Rattle.word.specs.Word.{Answer, value, done, notDone, saysYes, saysNo}
-use Rattle.word.specs.Order.{Call, Every, StandsFirst, InOrder}
-use Rattle.linear.specs.Calls.{Reply, Calls, noCalls, countedSteps, goOn, callsOf}
+use mathlib.Core.List.{List, [], _∷_}
+use lib.Dec.{eqb}
+use lib.ListN.{getD}
+use Rattle.step.specs.declared.Entry.{Entry}
+use Rattle.step.specs.declared.Kind.{Kind}
+use Rattle.step.specs.declared.Kind.the-variants.{Ask, Step}
+use Rattle.step.specs.declared.Request.{Request}
+use Rattle.step.specs.declared.Request.the-variants.{Load, Store, Check}
+use Rattle.log.specs.declared.Note.{Note}
+use Rattle.word.specs.Word.{Op, load, store, check, Answer, value, done, notDone, saysYes, saysNo}
+use Rattle.word.specs.Calls.{Item, asks, goes, answers, away, Calls, isStore, noCalls, goOn, callsFrom, doneCount}
+use Rattle.word.specs.OneOrder.{OneOrder}
 
--- the call that a reply answers, if it was decided at place d
-abbrev pub callOf : Reply → ℕ → Call ℕ
-callOf r d = record { asked = r .asked; decided = d; process = r .process; word = 0; op = r .op; answer = r .answer }
+-- a store is decided by step 8, its second own step
+abbrev pub stepOfStore : ℕ
+stepOfStore = 2
 
--- "The calls that were answered": this one is played, with the answer that the log gives it, and was decided when it was answered or before.
-abbrev pub IsPlayed : List (Call ℕ) → Reply → Type 0
-IsPlayed played r = (d : ℕ) × (d ≤ r .place) × List·Memᴰ (callOf r d) played
+abbrev pub opOf : Request → Op ℕ
+opOf Load = load
+opOf (Store v) = store v
+opOf Check = check
 
--- call c was answered at place t: a reply is there to the same request of the same process
-abbrev pub Answered : List Reply → Call ℕ → ℕ → Type 0
-Answered replies c t = (r : Reply) × List·Memᴰ r replies × (r .place ≡ t) × (r .asked ≡ c .asked) × (r .process ≡ c .process)
+-- What came of an entry of p, by the number of its outcome: "0 request taken; 1 step taken, call goes on; 2 LL answered; 3 SC done; 4 SC
+-- not done; 5 VL yes; 6 VL no. A refused entry's outcome is its number below." There is one word, word 0.
+abbrev pub stepItems : ℕ → ℕ → List (Item ℕ)
+stepItems p v = away ∷ goes p ∷ answers p (value v) ∷ answers p done ∷ answers p notDone ∷ answers p saysYes ∷ answers p saysNo ∷ []
 
--- Nothing else is played: a played call was answered with that answer where it was decided, or it is a store that has changed the word.
-abbrev pub AnsweredOrDone : List Reply → Call ℕ → Type 0
-AnsweredOrDone replies c = (c .answer ≡ done) ⊎ ((r : Reply) × List·Memᴰ r replies × (callOf r (r .place) ≡ c))
+abbrev pub itemBy : ℕ → Kind → Note → Item ℕ
+itemBy p (Ask request) w = cond (eqb (w .outcome) 0) (asks p 0 (opOf request)) away
+itemBy p Step w = getD (stepItems p (w .value)) (w .outcome) away
 
--- No request is played twice: each call was requested before it was decided, and of two calls of one process, in the order in which they
--- were decided, the earlier was decided before the later was requested.
-abbrev pub OneByOne : List (Call ℕ) → Type 0
-OneByOne [] = Unit {0}
-OneByOne (c ∷ cs) = (c .asked < c .decided) × Every (λ d. c .process ≡ d .process → c .decided < d .asked) cs × OneByOne cs
+abbrev pub itemOf : Entry → Note → Item ℕ
+itemOf e w = itemBy (e .process .0) (e .kind) w
 
--- "A load is answered at its third own step (mark 1) or fourth (mark 2), a store that fails at its second, one that succeeds at its
--- fourth, a check at its first."
-abbrev pub RightSteps : Answer ℕ → ℕ → ℕ → Type 0
-RightSteps (value v) mark steps = ((mark ≡ 1) × (steps ≡ 3)) ⊎ ((mark ≡ 2) × (steps ≡ 4))
-RightSteps done mark steps = (mark ≡ 0) × (steps ≡ 4)
-RightSteps notDone mark steps = (mark ≡ 0) × (steps ≡ 2)
-RightSteps saysYes mark steps = (mark ≡ 0) × (steps ≡ 1)
-RightSteps saysNo mark steps = (mark ≡ 0) × (steps ≡ 1)
+abbrev pub itemsOf : List Entry → List Note → List (Item ℕ)
+itemsOf [] ws = []
+itemsOf (e ∷ es) [] = []
+itemsOf (e ∷ es) (w ∷ ws) = itemOf e w ∷ itemsOf es ws
 
--- the log's steps are the own steps counted over the entries, at every entry
-abbrev pub StepsCounted : Calls → List Entry → List Note → Type 0
-StepsCounted c [] ws = Unit {0}
-StepsCounted c (e ∷ es) [] = Unit {0}
-StepsCounted c (e ∷ es) (w ∷ ws) = (w .steps ≡ countedSteps c e w) × StepsCounted (goOn c e w) es ws
+-- the calls of these entries, as these records tell them
+abbrev pub callsIn : List Entry → List Note → Calls ℕ
+callsIn es ws = callsFrom stepOfStore noCalls (itemsOf es ws)
 
--- how many of the calls are stores that were done
-abbrev pub isDone : Answer ℕ → Bool
-isDone (value v) = false
-isDone done = true
-isDone notDone = false
-isDone saysYes = false
-isDone saysNo = false
+-- What a record must say beside its outcome, counted over the entries: own steps, mark, value.
+pub record Counted : Type 0 where
+  pub steps : ℕ
+  pub mark : ℕ
+  pub value : ℕ
 
-abbrev pub doneCount : List (Call ℕ) → ℕ
-doneCount [] = 0
-doneCount (c ∷ cs) = cond (isDone (c .answer)) (suc (doneCount cs)) (doneCount cs)
+abbrev pub counts : ℕ → ℕ → ℕ → Counted
+counts steps mark v = record { steps = steps; mark = mark; value = v }
 
-pub record Demand3 (v : ℕ) (es : List Entry) (ws : List Note) : Type 0 where
-  -- There is one order of the calls: each of them once; the real-time clause; and "played one at a time from the start (value V, count
-  -- 0, no links)" the atomic linked word gives every call its answer (word/specs/Order.antt).
-  pub inOrder : InOrder v (callsOf es ws .played)
-  -- "a call answered before another was requested stands first"
-  pub first : StandsFirst (Answered (callsOf es ws .replies)) (inOrder .order)
-  -- every answered call is among them, no request twice, and nothing but these and stores that have changed the word
-  pub answered : Every (IsPlayed (callsOf es ws .played)) (callsOf es ws .replies)
-  pub oneByOne : OneByOne (callsOf es ws .played)
-  pub only : Every (AnsweredOrDone (callsOf es ws .replies)) (callsOf es ws .played)
-  -- the counts
-  pub rightSteps : Every (λ r. RightSteps (r .answer) (r .mark) (r .steps)) (callsOf es ws .replies)
-  pub stepsCounted : StepsCounted noCalls es ws
-  pub changesCounted : changeCount ws ≡ doneCount (callsOf es ws .played)
+-- "Mark: 1 "current" for an LL answered by step 3, 2 "old" for one answered by step 5, else 0. Value: the LL's answer, else 0." Step 3 is
+-- a load's third own step, and step 5 its fourth.
+abbrev pub countedAnswer : ℕ → Answer ℕ → Counted
+countedAnswer k (value v) = counts k (k - 2) v
+countedAnswer k done = counts k 0 0
+countedAnswer k notDone = counts k 0 0
+countedAnswer k saysYes = counts k 0 0
+countedAnswer k saysNo = counts k 0 0
+
+-- "own steps of this call so far with this one (0 for a request or a refused entry)"
+abbrev pub counted : Calls ℕ → Item ℕ → Counted
+counted c (asks p w o) = counts 0 0 0
+counted c (goes p) = counts (suc (c .steps p)) 0 0
+counted c (answers p a) = countedAnswer (suc (c .steps p)) a
+counted c away = counts 0 0 0
+
+-- A call goes on at a load's first three own steps, at a store's first three, and never at a check's. (That a store's second goes on
+-- exactly if X changed is what `changes` counts below, and `ChangesDecide` says entry by entry.)
+abbrev pub MayGoOn : Op ℕ → ℕ → Type 0
+MayGoOn load k = k ≤ 3
+MayGoOn (store v) k = k ≤ 3
+MayGoOn check k = ⊥
+
+-- "A load is answered at its third own step .. or fourth .., a store that fails at its second, one that succeeds at its fourth, a check
+-- at its first."
+abbrev pub MayAnswer : Op ℕ → Answer ℕ → ℕ → Type 0
+MayAnswer o (value v) k = (o ≡ load) × ((k ≡ 3) ⊎ (k ≡ 4))
+MayAnswer o done k = (isStore o ≡ true) × (k ≡ 4)
+MayAnswer o notDone k = (isStore o ≡ true) × (k ≡ 2)
+MayAnswer o saysYes k = (o ≡ check) × (k ≡ 1)
+MayAnswer o saysNo k = (o ≡ check) × (k ≡ 1)
+
+abbrev pub InTurn : Calls ℕ → Item ℕ → Type 0
+InTurn c (asks p w o) = Unit {0}
+InTurn c (goes p) = MayGoOn (c .op p) (suc (c .steps p))
+InTurn c (answers p a) = MayAnswer (c .op p) a (suc (c .steps p))
+InTurn c away = Unit {0}
+
+-- What a record says of its entry, c being the calls before it.
+pub record RightRecord (c : Calls ℕ) (e : Entry) (w : Note) : Type 0 where
+  pub process : w .process ≡ e .process .0
+  pub steps : w .steps ≡ counted c (itemOf e w) .steps
+  pub mark : w .mark ≡ counted c (itemOf e w) .mark
+  pub value : w .value ≡ counted c (itemOf e w) .value
+  pub inTurn : InTurn c (itemOf e w)
+
+-- There are as many records as entries, and each is right.
+abbrev pub RightRecords : Calls ℕ → List Entry → List Note → Type 0
+RightRecords c [] [] = Unit {0}
+RightRecords c [] (w ∷ ws) = ⊥
+RightRecords c (e ∷ es) [] = ⊥
+RightRecords c (e ∷ es) (w ∷ ws) = RightRecord c e w × RightRecords (goOn stepOfStore c (itemOf e w)) es ws
+
+-- The records ws of the entries es, from first value v, with the head's count of changes.
+pub record Demand3 (v changes : ℕ) (es : List Entry) (ws : List Note) : Type 0 where
+  pub oneOrder : OneOrder v (callsIn es ws)
+  pub records : RightRecords noCalls es ws
+  -- "how often X has changed": the stores that were decided as done, answered or not
+  pub changesCounted : changes ≡ doneCount (callsIn es ws .played)

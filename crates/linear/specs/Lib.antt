@@ -1,3 +1,3 @@
-pub mod Calls
 pub mod Demand3
+pub mod Linked
 pub mod OfFile

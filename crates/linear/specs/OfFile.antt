@@ -1,13 +1,25 @@
--- Demand 3 of files. The calls and their answers are read from `notesOf`, from which the log's bytes are made (bench/specs/Bench.antt).
-use Prim.Native.Nat.{ℕ}
+-- Demand 3 of files: of the bytes of the file and the bytes of the log, and of nothing else.
+-- Assumes nothing.
+use Prim.Native.Nat.{ℕ, _≤_, _<_}
 use mathlib.Core.Path.{_≡_}
 use mathlib.Core.List.{List}
-use Rattle.schedule.specs.File.{reading}
+use lib.ListN.{length}
+use Rattle.schedule.specs.File.{reading, fileEntries}
 use Rattle.schedule.specs.declared.Reading.the-variants.{Accepted}
-use Rattle.bench.specs.Asked.{askedOf}
-use Rattle.bench.specs.Bench.{notesOf}
+use Rattle.log.specs.Log.{logLength, headIn, notesIn}
+use Rattle.bench.specs.Bench.{logAfter}
+use Rattle.word.specs.Order.{Every}
 use Rattle.linear.specs.Demand3.{Demand3}
 
--- "The answered calls of every accepted file": where the reader accepts these bytes, with N n, S s, V v and c entries
+-- What people hold in their hands: a file of N n and first value v with c entries, and the log of its run. The log's head says c and n;
+-- its records, read back from its bytes, are those of the file's entries; and they and the head's count of changes meet demand 3.
+pub record LogOfFile (n v c : ℕ) (file log : List ℕ) : Type 0 where
+  pub entries : headIn log .entries ≡ c
+  pub processes : headIn log .n ≡ n
+  pub calls : Demand3 v (headIn log .changes) (fileEntries file) (notesIn log)
+
+-- "The answered calls of every accepted file": for every list of bytes that the reader accepts, and every lent log that is long enough,
+-- whatever it held.
 abbrev pub Demand3OfFile : List ℕ → Type 0
-Demand3OfFile f = (n s v c : ℕ) → reading f ≡ Accepted n s v c → Demand3 v (askedOf f) (notesOf f n s v)
+Demand3OfFile f =
+    Every (λ b. b < 256) f → (n s v c : ℕ) → reading f ≡ Accepted n s v c → (log : List ℕ) → logLength c ≤ length log → LogOfFile n v c f (logAfter f log)

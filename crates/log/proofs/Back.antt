@@ -1,41 +1,21 @@
--- Reading back what was written: a number from its bytes, a record and a head from theirs, each entry of a whole log.
+-- Reading back what was written: a record and a head from their bytes, and each entry of a whole log.
 -- Assumes nothing.
-use Prim.Native.Nat.{ℕ, zero, suc, _+_, _*_, _^_, _/_, _%_, _≤_, _<_}
-use mathlib.Core.Path.{_≡_, refl, sym, ap, _∙_}
+use Prim.Native.Nat.{ℕ, suc, _+_, _^_, _≤_, _<_}
+use mathlib.Core.Path.{_≡_, sym, ap, _∙_}
 use mathlib.Core.List.{List, [], _∷_, _++_, append-assoc}
-use native.Mathlib.Nat.{mod-one, mod-eq-of-lt, mul-comm, add-comm, one-le-pow, pow-suc}
+use native.Mathlib.Nat.{mod-eq-of-lt}
 use native.Mathlib.Omega.{arith}
 use borrow.Author.Tests.{le-leb}
-use lib.Arith.{mod-mul}
-use lib.Dec.{lit<}
 use lib.ListN.{length, getD, take, drop, length-append}
-use lib.Seq.{append-snoc, getD-append-seam, drop-at, split-at, length-take-le}
-use Rattle.log.specs.Bytes.{bytesOf, numberAt}
-use Rattle.log.specs.Log.{headOf, recordOf, recordsOf, logOf, logLength, headIn, noteIn, headFound, noteFound}
-use Rattle.log.specs.declared.Head.{Head}
-use Rattle.log.specs.declared.HeadFound.{HeadFound}
+use lib.Seq.{getD-append-seam, drop-at, split-at, length-take-le}
+use Rattle.numbers.specs.Bytes.{bytesOf, numberAt}
+use Rattle.numbers.proofs.Below.{same-below, listed-all}
+use Rattle.numbers.proofs.Bytes.{number-back}
+use Rattle.log.specs.Log.{headOf, recordOf, recordsOf, logOf, logLength, headIn, noteIn, notesIn, headFound, noteFound}
 use Rattle.log.specs.declared.HeadFound.the-variants.{Laid}
 use Rattle.log.specs.declared.Note.{Note}
-use Rattle.log.specs.declared.NoteFound.{NoteFound}
 use Rattle.log.specs.declared.NoteFound.the-variants.{Written}
-use Rattle.log.proofs.Laws.{head-length, record-length, records-length, records-append}
-
--- Bytes between others read back as the number, up to what fits the width.
-pub number-back : (before behind : List ℕ) (width n : ℕ)
-    → numberAt (before ++ (bytesOf width n ++ behind)) (length before) width ≡ n % 256 ^ width
-number-back before behind zero n = sym (mod-one n)
-number-back before behind (suc width) n =
-    let low = n % 256 in
-    let more = bytesOf width (n / 256) ++ behind in
-    let place : length before + 1 ≡ length (before ++ (low ∷ [])) = rw length-append (omega arith) in
-    let rest : numberAt (before ++ (low ∷ more)) (length before + 1) width ≡ n / 256 % 256 ^ width =
-    rw (← append-snoc before low more, place) (number-back (before ++ (low ∷ [])) behind width (n / 256)) in
-    let high : n % (256 ^ width * 256) ≡ n / 256 % 256 ^ width * 256 + low = mod-mul n (one-le-pow width 256 (lit< tt)) (lit< tt) in
-    rw (getD-append-seam before low more 0, rest, pow-suc, high, mul-comm 256, add-comm low)
-
--- A number of eight bytes is made of two of four.
-pub eight-of-fours : (part : List ℕ) (at : ℕ) → numberAt part at 4 + 2 ^ 32 * numberAt part (at + 1 + 1 + 1 + 1) 4 ≡ numberAt part at 8
-eight-of-fours part at = omega arith
+use Rattle.log.proofs.Laws.{head-length, records-length, records-append, log-length}
 
 pub note-back : (note : Note) (behind : List ℕ) → note .value < 2 ^ 64 → noteIn (recordOf note ++ behind) ≡ note
 unfolding noteIn recordOf
@@ -61,34 +41,64 @@ record-one a b h k e = sym (note-back a [] h) ∙ ap (λ (bytes : List ℕ). not
 
 -- A whole log, with anything behind it: its head and the record of each entry read back.
 module _ (changes n : ℕ) (rest : List ℕ) where
+  pub head-in : (notes : List Note) → length notes < 2 ^ 32 → changes < 2 ^ 32
+      → headIn (logOf changes n notes ++ rest) ≡ record { entries = length notes; changes = changes; n = n }
+  unfolding logOf
+  head-in notes h k =
+      rw (append-assoc (headOf (length notes) changes n) (recordsOf notes) rest) (head-back (length notes) changes n (recordsOf notes ++ rest) h k)
+
   pub head-read : (notes : List Note) → length notes < 2 ^ 32 → changes < 2 ^ 32
       → headFound (logOf changes n notes ++ rest) ≡ Laid (record { entries = length notes; changes = changes; n = n })
-  unfolding headFound logOf
+  unfolding headFound
   head-read notes h k =
-      let head = headOf (length notes) changes n in
-      let there : 12 ≤ length (head ++ (recordsOf notes ++ rest)) = rw (length-append, head-length) (omega arith) in
-      rw (append-assoc head (recordsOf notes) rest, le-leb _ _ there, head-back (length notes) changes n (recordsOf notes ++ rest) h k)
+      let there : 12 ≤ length (logOf changes n notes ++ rest) = rw (length-append, log-length) (omega arith) in
+      rw (le-leb _ _ there, head-in notes h k)
 
-  pub note-among : (first then : List Note) (note : Note) → note .value < 2 ^ 64
-      → noteFound (logOf changes n (first ++ note ∷ then) ++ rest) (length first) ≡ Written note
-  unfolding noteFound logOf recordsOf
-  note-among first then note h =
+  among : (first then : List Note) (note : Note) → note .value < 2 ^ 64
+      → noteIn (drop (logLength (length first)) (logOf changes n (first ++ note ∷ then) ++ rest)) ≡ note
+  unfolding logOf recordsOf
+  among first then note h =
       let head = headOf (length (first ++ note ∷ then)) changes n in
       let front = head ++ recordsOf first in
       let behind = recordsOf then ++ rest in
       let e : (head ++ recordsOf (first ++ note ∷ then)) ++ rest ≡ front ++ (recordOf note ++ behind) =
       rw (records-append first (note ∷ then)) (simp append-assoc) in
       let place : length front ≡ logLength (length first) = rw (length-append head (recordsOf first), head-length, records-length) in
-      let there : logLength (length first + 1) ≤ length (front ++ (recordOf note ++ behind)) =
-      rw (length-append front, length-append (recordOf note), record-length, place) (omega arith) in
-      rw (e, le-leb _ _ there, drop-at front (recordOf note ++ behind) _ place, note-back note behind h)
+      rw (e, drop-at front (recordOf note ++ behind) _ place, note-back note behind h)
 
-  pub note-read : (notes : List Note) (i : ℕ) (none : Note) → i < length notes → getD notes i none .value < 2 ^ 64
-      → noteFound (logOf changes n notes ++ rest) i ≡ Written (getD notes i none)
-  note-read notes i none l h =
+  pub note-in : (notes : List Note) (i : ℕ) (none : Note) → i < length notes → getD notes i none .value < 2 ^ 64
+      → noteIn (drop (logLength i) (logOf changes n notes ++ rest)) ≡ getD notes i none
+  note-in notes i none l h =
       let first = take i notes in
       let then = drop (suc i) notes in
       let e : length first ≡ i = length-take-le i notes (omega arith) in
-      ap (λ (all : List Note). noteFound (logOf changes n all ++ rest) i) (split-at notes i none l)
-      ∙ ap (λ (k : ℕ). noteFound (logOf changes n (first ++ getD notes i none ∷ then) ++ rest) k) (sym e)
-      ∙ note-among first then (getD notes i none) h
+      ap (λ (all : List Note). noteIn (drop (logLength i) (logOf changes n all ++ rest))) (split-at notes i none l)
+      ∙ ap (λ (k : ℕ). noteIn (drop (logLength k) (logOf changes n (first ++ getD notes i none ∷ then) ++ rest))) (sym e)
+      ∙ among first then (getD notes i none) h
+
+  pub note-read : (notes : List Note) (i : ℕ) (none : Note) → i < length notes → getD notes i none .value < 2 ^ 64
+      → noteFound (logOf changes n notes ++ rest) i ≡ Written (getD notes i none)
+  unfolding noteFound
+  note-read notes i none l h =
+      let there : logLength (i + 1) ≤ length (logOf changes n notes ++ rest) = rw (length-append, log-length) (omega arith) in
+      rw (le-leb _ _ there, note-in notes i none l h)
+
+  pub note-among : (first then : List Note) (note : Note) → note .value < 2 ^ 64
+      → noteFound (logOf changes n (first ++ note ∷ then) ++ rest) (length first) ≡ Written note
+  note-among first then note h =
+      let e : getD (first ++ note ∷ then) (length first) note ≡ note = getD-append-seam first note then note in
+      let l : length first < length (first ++ note ∷ then) = rw length-append (omega arith) in
+      rw e at (note-read (first ++ note ∷ then) (length first) note l (rw e h))
+
+-- The records of a whole log are those of its entries.
+pub notes-back : (changes n : ℕ) (notes : List Note) (rest : List ℕ) → length notes < 2 ^ 32 → changes < 2 ^ 32
+    → ((i : ℕ) (none : Note) → i < length notes → getD notes i none .value < 2 ^ 64)
+    → notesIn (logOf changes n notes ++ rest) ≡ notes
+unfolding notesIn
+notes-back changes n notes rest h k small =
+    let none : Note = record { outcome = 0; process = 0; steps = 0; mark = 0; value = 0 } in
+    let log = logOf changes n notes ++ rest in
+    rw (head-in changes n rest notes h k)
+    (same-below (length notes) (λ i. noteIn (drop (logLength i) log)) (λ i. getD notes i none)
+    (λ i l. note-in changes n rest notes i none l (small i none l))
+    ∙ listed-all notes none)

@@ -1,20 +1,15 @@
 -- Lengths of the log's parts, and what is left where bytes are laid into a lent part or into the rest of one.
 -- Assumes nothing.
-use Prim.Native.Nat.{ℕ, zero, suc, _+_, _-_, _*_, _/_, _≤_, _<_}
-use mathlib.Core.Path.{_≡_, refl, sym, ap, _∙_}
+use Prim.Native.Nat.{ℕ, _+_, _-_, _*_, _≤_, _<_}
+use mathlib.Core.Path.{_≡_, refl, _∙_}
 use mathlib.Core.List.{List, [], _∷_, _++_, append-assoc, append-nil}
 use native.Mathlib.Nat.{zero-add}
 use native.Mathlib.Omega.{arith}
 use borrow.Author.Tests.{le-leb, lt-leb}
 use lib.ListN.{length, take, drop, length-append, length-drop}
 use lib.Seq.{sets, sets-eq, length-take-le, take-all, take-at, drop-at, drop-append-add, drop-drop, drop-length}
-use Rattle.log.specs.Bytes.{bytesOf, laid}
-use Rattle.log.specs.Log.{headOf, recordOf, recordsOf, logOf, logLength}
+use Rattle.log.specs.Log.{headOf, recordOf, recordsOf, logOf, laid, logLength}
 use Rattle.log.specs.declared.Note.{Note}
-
-pub bytes-length : (width n : ℕ) → length (bytesOf width n) ≡ width
-bytes-length zero n = refl
-bytes-length (suc width) n = rw (bytes-length width (n / 256))
 
 pub head-length : (entries changes n : ℕ) → length (headOf entries changes n) ≡ 12
 unfolding headOf
@@ -52,7 +47,7 @@ pub laid-short : (bytes part : List ℕ) → length part < length bytes → laid
 unfolding laid
 laid-short bytes part h = rw (lt-leb (length bytes) (length part) h)
 
--- a run of stores from the front is the bytes laid there
+-- stores one after another from the front are the bytes laid there
 pub stored : (bytes part : List ℕ) → length bytes ≤ length part → sets part 0 bytes ≡ laid bytes part
 stored bytes part h = sets-eq bytes part 0 (rw zero-add h) ∙ rw (zero-add, laid-fits bytes part h)
 

@@ -1,2 +1,1 @@
-pub mod Bytes
 pub mod Log

@@ -4,7 +4,8 @@ use mathlib.Core.Bool.{cond}
 use mathlib.Core.List.{List, [], _∷_, _++_}
 use lib.Dec.{leb}
 use lib.ListN.{length, getD, drop}
-use Rattle.log.specs.Bytes.{bytesOf, numberAt}
+use Rattle.numbers.specs.Below.{listBelow}
+use Rattle.numbers.specs.Bytes.{bytesOf, numberAt}
 use Rattle.log.specs.declared.Head.{Head}
 use Rattle.log.specs.declared.HeadFound.{HeadFound}
 use Rattle.log.specs.declared.HeadFound.the-variants.{Laid, NoHead}
@@ -29,6 +30,10 @@ recordsOf (note ∷ notes) = recordOf note ++ recordsOf notes
 unfoldable pub logOf : ℕ → ℕ → List Note → List ℕ
 logOf changes n notes = headOf (length notes) changes n ++ recordsOf notes
 
+-- Bytes at the front of a lent part; what lies past them keeps what it held. A part that is too short for them stays as it was.
+unfoldable pub laid : List ℕ → List ℕ → List ℕ
+laid bytes part = cond (leb (length bytes) (length part)) (bytes ++ drop (length bytes) part) part
+
 -- "12 + 12 times the entries"
 abbrev pub logLength : ℕ → ℕ
 logLength entries = 12 + 12 * entries
@@ -46,6 +51,10 @@ noteIn part =
       mark = getD part 3 0;
       value = numberAt part 4 8;
     }
+
+-- the records of a log, as many as its head says
+unfoldable pub notesIn : List ℕ → List Note
+notesIn log = listBelow (headIn log .entries) (λ i. noteIn (drop (logLength i) log))
 
 -- The head is there where its twelve bytes are.
 unfoldable pub headFound : List ℕ → HeadFound

@@ -2,20 +2,15 @@
 ghost use mathlib.Core.Path.{_≡_};
 ghost use Prim.Native.Nat.{_+_, _≤_, _<_};
 ghost use lib.ListN.{length};
-ghost use Rattle.log.specs.Bytes.{numberAt};
+ghost use Rattle.numbers.specs.Bytes.{numberAt};
 ghost use Rattle.log.specs.Log.{headIn, headFound, noteIn, noteFound};
 use crate::Head;
 use crate::HeadFound;
 use crate::Note;
 use crate::NoteFound;
+use numbers::wide;
 
-// A byte at a width in which sums of bytes fit.
-fn wide(x: u8) -> u32
-    ensures { λ r. ⌜ (r ≡ x) × (r < 256) ⌝ }
-{
-    x as u32
-}
-
+// A number of four bytes.
 fn read_four(part: &[u8], at: usize) -> u32
     requires { ⌜ at + 4 ≤ length (now part) ⌝ }
     ensures { λ r. ⌜ r ≡ numberAt (now (part .entry)) at 4 ⌝ }

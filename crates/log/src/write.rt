@@ -2,23 +2,24 @@
 ghost use mathlib.Core.Path.{_≡_};
 ghost use Prim.Native.Nat.{_≤_};
 ghost use lib.ListN.{length};
-ghost use Rattle.log.specs.Bytes.{laid};
-ghost use Rattle.log.specs.Log.{headOf, recordOf};
+ghost use Rattle.log.specs.Log.{laid, headOf, recordOf};
 use crate::Note;
+use numbers::Version;
 
 // The twelve stores. The lent part has room for them.
-fn store_head(log: &mut [u8], entries: u32, changes: u32, n: u8)
+fn store_head(log: &mut [u8], entries: u32, changes: Version, n: u8)
     requires { ⌜ 12 ≤ length (now log) ⌝ }
-    ensures { λ _. ⌜ now (log .exit) ≡ laid (headOf entries changes n) (now (log .entry)) ⌝ }
+    ensures { λ _. ⌜ now (log .exit) ≡ laid (headOf entries (changes .0) n) (now (log .entry)) ⌝ }
 {
+    let times = changes.0;
     log[0] = (entries % 256) as u8;
     log[1] = (entries / 256 % 256) as u8;
     log[2] = (entries / 256 / 256 % 256) as u8;
     log[3] = (entries / 256 / 256 / 256 % 256) as u8;
-    log[4] = (changes % 256) as u8;
-    log[5] = (changes / 256 % 256) as u8;
-    log[6] = (changes / 256 / 256 % 256) as u8;
-    log[7] = (changes / 256 / 256 / 256 % 256) as u8;
+    log[4] = (times % 256) as u8;
+    log[5] = (times / 256 % 256) as u8;
+    log[6] = (times / 256 / 256 % 256) as u8;
+    log[7] = (times / 256 / 256 / 256 % 256) as u8;
     log[8] = n;
     log[9] = 0;
     log[10] = 0;
@@ -26,8 +27,8 @@ fn store_head(log: &mut [u8], entries: u32, changes: u32, n: u8)
 }
 
 // Lays the head at the front of the log. A log shorter than a head stays as it was.
-pub fn lay_head(log: &mut [u8], entries: u32, changes: u32, n: u8)
-    ensures { λ _. ⌜ now (log .exit) ≡ laid (headOf entries changes n) (now (log .entry)) ⌝ }
+pub fn lay_head(log: &mut [u8], entries: u32, changes: Version, n: u8)
+    ensures { λ _. ⌜ now (log .exit) ≡ laid (headOf entries (changes .0) n) (now (log .entry)) ⌝ }
 {
     if 12 <= log.len() {
         store_head(log, entries, changes, n);

@@ -1,9 +1,12 @@
 pub mod Tests
 pub mod Soundness
+pub mod Writers
 pub mod Frame
 pub mod SoundKept
-pub mod Runs
+pub mod RunLaws
+pub mod Values
 pub mod Refusals
-pub mod EntryByParts
+pub mod Numbers
 pub mod PartsOfRun
+pub mod Reached
 pub mod RunsAToL

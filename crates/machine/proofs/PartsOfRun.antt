@@ -1,66 +1,64 @@
 -- On the state of a run, an entry over small parts is the entry: what it leaves, put back, is the state after it.
-use Prim.Native.Nat.{ℕ, _≤_, _<_}
-use mathlib.Core.Path.{_≡_, refl, sym, ap, _∙_}
+use Prim.Native.Nat.{_<_}
+use mathlib.Core.Path.{_≡_, refl, _∙_}
 use mathlib.Core.Bool.{Bool, true, false, cond}
 use native.Mathlib.Omega.{arith}
 use lib.Dec.{ltb}
-use lib.ListN.{set}
 use lib.Seq.{set-getD}
 use borrow.Author.Tests.{ltb-true}
-use Rattle.step.specs.declared.Process.{Process}
+use Rattle.numbers.specs.declared.Process.{Process}
+use Rattle.numbers.proofs.Range.{range-of}
+use Rattle.step.specs.Steps.{asWas}
+use Rattle.step.specs.declared.Entry.{Entry}
 use Rattle.step.specs.declared.Outcome.the-variants.{NoProcess}
 use Rattle.machine.specs.State.{rowAt, recordAt}
-use Rattle.machine.specs.Entry.{refused, requested, stepped, entered, withStepped}
-use Rattle.machine.specs.Run.{Entry, played}
-use Rattle.machine.specs.Parts.{seatOf, rowGiven, kindParts, playedParts}
+use Rattle.machine.specs.Entry.{rowGiven, partsAfter, answerWith, refused, entered, seatOf, playedParts}
+use Rattle.machine.specs.Frame.{Ready}
+use Rattle.machine.specs.Run.{played}
 use Rattle.machine.specs.declared.State.{State}
-use Rattle.machine.specs.declared.Kind.{Kind}
-use Rattle.machine.specs.declared.Kind.the-variants.{Load, Store, Check, Step}
-use Rattle.machine.specs.declared.Answer.{Answer}
-use Rattle.machine.proofs.Soundness.{range-of, given-below}
-use Rattle.machine.proofs.EntryByParts.{entered-parts}
-use Rattle.machine.proofs.Runs.{Ready, played-ready}
+use Rattle.machine.proofs.Soundness.{given-below, sure}
+use Rattle.machine.proofs.RunLaws.{played-ready}
 
 -- the seat and the row of an entry
-abbrev pub seat : State → Entry → ℕ
+abbrev pub seat : State → Entry → Process
 seat st e = seatOf (st .n) (e .process)
 
-abbrev pub given : State → Entry → ℕ
-given st e = rowGiven (seat st e) (recordAt st (seat st e)) (e .kind)
+abbrev pub given : State → Entry → Process
+given st e = rowGiven (seat st e) (recordAt st (seat st e .0)) (e .kind)
 
 pub played-by-parts : (st : State) (e : Entry) → Ready st
-    → played st e ≡ withStepped st (seat st e) (given st e) (playedParts (st .n) (st .s) (e .process) (st .x) (recordAt st (seat st e)) (rowAt st (given st e)) (e .kind))
-unfolding playedParts
+    → played st e ≡ answerWith st (seat st e) (given st e) (playedParts (st .n) (st .s) (e .process) (st .x) (recordAt st (seat st e .0)) (rowAt st (given st e .0)) (e .kind))
+unfolding playedParts entered
 played-by-parts st e h = played-ready st e h ∙ go (ltb (e .process .0) (st .n))
   where
     p : Process
     p = e .process
 
-    at : Bool → ℕ
-    at b = cond b (p .0) 0
+    at : Bool → Process
+    at b = cond b (e .process) (record { 0 = 0 })
 
     go : (b : Bool)
-        → cond b (entered st p (e .kind)) (refused st NoProcess)
-        ≡ withStepped st (at b) (rowGiven (at b) (recordAt st (at b)) (e .kind))
-        (cond b (kindParts (st .s) p (st .x) (recordAt st (at b)) (rowAt st (rowGiven (at b) (recordAt st (at b)) (e .kind))) (e .kind))
-        (record { x = st .x; own = recordAt st (at b); row = rowAt st (rowGiven (at b) (recordAt st (at b)) (e .kind)); outcome = NoProcess }))
-    go true = entered-parts st p (e .kind) _ refl
+        → cond b (entered st (e .process) (e .kind)) (refused st NoProcess)
+        ≡ answerWith st (at b) (rowGiven (at b) (recordAt st (at b .0)) (e .kind))
+        (cond b (partsAfter (st .s) (e .process) (st .x) (recordAt st (at b .0)) (rowAt st (rowGiven (at b) (recordAt st (at b .0)) (e .kind) .0)) (e .kind))
+        (asWas (st .x) (recordAt st (at b .0)) (rowAt st (rowGiven (at b) (recordAt st (at b .0)) (e .kind) .0)) NoProcess))
+    go true = refl
     go false = rw (set-getD, set-getD)
 
 -- Seat and row are among those below N, and so among the 16.
 module _ (st : State) (e : Entry) (h : Ready st) where
-  seat-below : seat st e < st .n
+  seat-below : seat st e .0 < st .n
   seat-below = go (ltb (e .process .0) (st .n)) refl
     where
-      go : (b : Bool) → ltb (e .process .0) (st .n) ≡ b → cond b (e .process .0) 0 < st .n
+      go : (b : Bool) → ltb (e .process .0) (st .n) ≡ b → cond {A = Process} b (e .process) (record { 0 = 0 }) .0 < st .n
       go true t = ltb-true (e .process .0) (st .n) t
-      go false t = range-of (st .n) (st .s) (h .sure .range) .some
+      go false t = range-of (st .n) (st .s) (sure h .range) .some
 
-  row-within : given st e < st .n
-  row-within = given-below (seat st e) (recordAt st (seat st e)) (e .kind) (st .n) seat-below (h .sure .each (seat st e) seat-below .kept .owner)
+  row-within : given st e .0 < st .n
+  row-within = given-below (seat st e) (recordAt st (seat st e .0)) (e .kind) (st .n) seat-below (sure h .each (seat st e .0) seat-below .kept .owner)
 
-  pub seat-within : seat st e < 16
-  seat-within = omega (arith, seat-below, range-of (st .n) (st .s) (h .sure .range) .few)
+  pub seat-within : seat st e .0 < 16
+  seat-within = omega (arith, seat-below, range-of (st .n) (st .s) (sure h .range) .few)
 
-  pub given-within : given st e < 16
-  given-within = omega (arith, row-within, range-of (st .n) (st .s) (h .sure .range) .few)
+  pub given-within : given st e .0 < 16
+  given-within = omega (arith, row-within, range-of (st .n) (st .s) (sure h .range) .few)

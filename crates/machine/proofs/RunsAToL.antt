@@ -2,14 +2,14 @@
 use mathlib.Core.Path.{refl}
 use Rattle.step.specs.Steps.{stepOf}
 use Rattle.step.specs.Requests.{requestOf}
-use Rattle.machine.specs.State.{allBelow, sound}
+use Rattle.machine.specs.State.{sound}
 use Rattle.machine.specs.Opening.{startOf}
-use Rattle.machine.specs.Entry.{requested, stepped, called}
+use Rattle.machine.specs.Entry.{entered, called}
 use Rattle.machine.specs.Run.{notes}
-use Rattle.machine.specs.Table.{Runs}
+use Rattle.machine.specs.Table.{RunsAToL}
 
-pub runs-A-to-L : Runs
-unfolding stepOf requestOf allBelow sound startOf requested stepped called notes
+pub runs-A-to-L : RunsAToL
+unfolding stepOf requestOf sound startOf entered called notes
 runs-A-to-L =
     record {
       A = refl;

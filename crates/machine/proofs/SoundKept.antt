@@ -1,23 +1,22 @@
 -- The start is sound, and every entry keeps soundness: so no run from a start meets 15.
 use Prim.Native.Nat.{ℕ, zero, suc, _+_, _-_, _≤_, _<_}
-use mathlib.Core.Path.{_≡_, refl, sym, ap, subst, _∙_}
+use mathlib.Core.Path.{_≡_, refl, sym, _∙_}
 use mathlib.Core.Logic.{_≢_}
-use mathlib.Core.Bool.{Bool, true, false, cond, _&&_}
-use mathlib.Core.List.{List, [], _∷_}
+use mathlib.Core.Bool.{Bool, true, false, cond, false≢true}
+use mathlib.Core.List.{_∷_}
 use native.Mathlib.Omega.{arith}
-use native.Mathlib.Decide.{ℕ-discrete}
-use lib.Dec.{T, leb, ltb, leb·zero}
-use lib.IntN.{ℤ, pos, negsuc, subℕ, _-ℤ_}
-use lib.Signed.{leZ}
-use lib.ListN.{length, getD, set, replicate, getD-replicate}
-use lib.Seq.{getD-set-same, getD-set-other}
+use lib.Dec.{leb, ltb, leb·zero}
+use lib.IntN.{pos, negsuc, _-ℤ_}
+use lib.ListN.{length, getD, replicate, getD-replicate}
 use borrow.Author.Tests.{ltb-true, ltb-false, leb-true, le-leb}
+use Rattle.numbers.specs.Range.{inRange}
+use Rattle.numbers.proofs.Range.{InRange, range-of}
 use Rattle.step.specs.Number.{isOld, isNear, sameTag}
-use Rattle.step.specs.Steps.{stepAt, stepOf, reached, largestNext}
-use Rattle.step.specs.Requests.{requestOf, asked, idle, begun, notTaken}
+use Rattle.step.specs.Steps.{stepAt, stepOf, largestNext}
+use Rattle.step.specs.Requests.{requestOf, whenIdle, idle, begun, notTaken}
 use Rattle.step.proofs.Reach.{either-way}
-use Rattle.step.specs.declared.Process.{Process}
-use Rattle.step.specs.declared.Sequence.{Sequence}
+use Rattle.numbers.specs.declared.Process.{Process}
+use Rattle.numbers.specs.declared.Sequence.{Sequence}
 use Rattle.step.specs.declared.Tag.{Tag}
 use Rattle.step.specs.declared.Row.{Row}
 use Rattle.step.specs.declared.Record.{Record}
@@ -27,13 +26,16 @@ use Rattle.step.specs.declared.Request.{Request}
 use Rattle.step.specs.declared.Request.the-variants.{Load, Store, Check}
 use Rattle.step.specs.declared.Outcome.the-variants.{CallOpen, UsedUp}
 use Rattle.step.specs.declared.Stepped.{Stepped}
-use Rattle.machine.specs.State.{inRange, storing, sound, rowAt, recordAt, noRow, noRecord}
-use Rattle.machine.specs.Opening.{firstRow, firstRecord, firstState, startOf}
-use Rattle.machine.specs.Entry.{requested, stepped, called}
+use Rattle.machine.specs.State.{storing, rowAt, recordAt, noRow, noRecord}
+use Rattle.machine.specs.Opening.{firstRow, firstRecord, firstState}
+use Rattle.machine.specs.Entry.{partsAfter, entered, called}
+use Rattle.machine.specs.Frame.{Full}
 use Rattle.machine.specs.declared.State.{State}
-use Rattle.machine.specs.declared.Kind.{Kind}
-use Rattle.machine.proofs.Soundness.{InRange, range-of, SoundTag, SoundParts, Sound, sound-of, sound-back, row-below}
-use Rattle.machine.proofs.Frame.{by-call, Full, full-kept}
+use Rattle.step.specs.declared.Kind.{Kind}
+use Rattle.step.specs.declared.Kind.the-variants.{Ask, Step}
+use Rattle.machine.proofs.Soundness.{SoundTag, SoundParts, Sound, given-below}
+use Rattle.machine.proofs.Frame.{by-call, given, left}
+use Rattle.machine.proofs.Writers.{row-by, record-by}
 
 -- One record and one old number; a state has these for each process below N.
 pub record SoundOwn (n : ℕ) (s : Sequence) (own : Record) : Type 0 where
@@ -47,9 +49,6 @@ own-of h = record { kept = h .kept; low = h .low; high = h .high; store = h .sto
 
 parts-with : {n : ℕ} {s : Sequence} {own : Record} {row : Row} → SoundOwn n s own → isOld (row .«old_number») (s .0) ≡ true → SoundParts n s own row
 parts-with h o = record { kept = h .kept; low = h .low; high = h .high; store = h .store; old = o }
-
-no-store : {k s : ℕ} → false ≡ true → k ≤ s
-no-store e = absurd (subst T (sym e) tt)
 
 -- "next number - 2" of a next number 1 to S + 1 is -1 to S.
 two-less-old : (k s : ℕ) → 1 ≤ k → k ≤ s + 1 → isOld (pos k -ℤ pos 2) s ≡ true
@@ -68,11 +67,11 @@ record Left (n : ℕ) (s : Sequence) (m : Stepped) : Type 0 where
 module _ (n : ℕ) (s : Sequence) (p : Process) (x : Tag) (own : Record) (row : Row) (below : p .0 < n) (word : SoundTag n s x) (mine : SoundOwn n s own) (old : isOld (row .«old_number») (s .0) ≡ true) where
   -- the same kept tag and next number, at a place that no store stands at before step 8
   same-own : (place : Place) → storing place ≡ false → SoundOwn n s (record { kept = own .kept; next = own .next; place = place })
-  same-own place e = record { kept = mine .kept; low = mine .low; high = mine .high; store = λ t. no-store (sym e ∙ t) }
+  same-own place e = record { kept = mine .kept; low = mine .low; high = mine .high; store = λ t. absurd (false≢true (sym e ∙ t)) }
 
   left-at : (place : Place) → (storing place ≡ true → own .next .0 ≤ s .0) → Left n s (stepAt p x own row place)
   left-at Idle h = record { word = word; own = mine; old = old }
-  left-at Load1 h = record { word = word; own = record { kept = word; low = mine .low; high = mine .high; store = no-store }; old = old }
+  left-at Load1 h = record { word = word; own = record { kept = word; low = mine .low; high = mine .high; store = λ t. absurd (false≢true t) }; old = old }
   left-at Load2 h = record { word = word; own = same-own (Load3 _) refl; old = old }
   left-at (Load3 v) h =
       either-way (Left n s) (isNear (row .«old_number») (own .kept .number .0))
@@ -85,7 +84,7 @@ module _ (n : ℕ) (s : Sequence) (p : Process) (x : Tag) (own : Record) (row : 
       either-way (Left n s) (sameTag x (own .kept))
       (record {
         word = record { owner = below; number = h refl };
-        own = record { kept = mine .kept; low = omega arith; high = omega (arith, h refl); store = no-store };
+        own = record { kept = mine .kept; low = omega arith; high = omega (arith, h refl); store = λ t. absurd (false≢true t) };
         old = old;
       })
       (record { word = word; own = same-own Idle refl; old = old })
@@ -104,77 +103,54 @@ unfolding requestOf
 asked-sound n s own request h = by-idle (idle (own .place))
   where
     plain : (place : Place) → storing place ≡ false → SoundOwn n s (record { kept = own .kept; next = own .next; place = place })
-    plain place e = record { kept = h .kept; low = h .low; high = h .high; store = λ t. no-store (sym e ∙ t) }
+    plain place e = record { kept = h .kept; low = h .low; high = h .high; store = λ t. absurd (false≢true (sym e ∙ t)) }
 
     by-room : (v : ℕ) (b : Bool) → leb (own .next .0) (s .0) ≡ b → SoundOwn n s (cond b (begun own (Store7 v)) (notTaken own UsedUp) .own)
     by-room v true e = record { kept = h .kept; low = h .low; high = h .high; store = λ t. leb-true (own .next .0) (s .0) e }
     by-room v false e = h
 
-    by-kind : (r : Request) → SoundOwn n s (asked s own r .own)
+    by-kind : (r : Request) → SoundOwn n s (whenIdle s own r .own)
     by-kind Load = plain Load1 refl
     by-kind (Store v) = by-room v (leb (own .next .0) (s .0)) refl
     by-kind Check = plain Check14 refl
 
-    by-idle : (b : Bool) → SoundOwn n s (cond b (asked s own request) (notTaken own CallOpen) .own)
+    by-idle : (b : Bool) → SoundOwn n s (cond b (whenIdle s own request) (notTaken own CallOpen) .own)
     by-idle true = by-kind request
     by-idle false = h
 
--- The record of each process after p's was replaced, and its row after one was: the new one, or the old one.
-module _ {A : Type 0} (P : A → Type 0) (d : A) (l : List A) (i : ℕ) (a : A) where
-  pub replaced : P a → (j : ℕ) → P (getD l j d) → i < length l → P (getD (set l i a) j d)
-  replaced new j same h = go (ℕ-discrete j i)
-    where
-      go : Dec (j ≡ i) → P (getD (set l i a) j d)
-      go (yes e) = rw (e, getD-set-same l i a d h) new
-      go (no ne) = rw (getD-set-other l i j a d ne) same
+-- So an entry of p leaves what is sound.
+left-by-entry : (n : ℕ) (s : Sequence) (p : Process) (x : Tag) (own : Record) (row : Row) → p .0 < n → SoundTag n s x → SoundOwn n s own → isOld (row .«old_number») (s .0) ≡ true
+    → (kind : Kind) → Left n s (partsAfter s p x own row kind)
+left-by-entry n s p x own row below word mine old (Ask request) = record { word = word; own = asked-sound n s own request mine; old = old }
+left-by-entry n s p x own row below word mine old Step = left-by-step n s p x own row below word mine old
 
-module _ (st : State) (p : Process) (h : Sound st) (full : Full st) (below : p .0 < st .n) where
-  few : st .n ≤ 16
-  few = range-of (st .n) (st .s) (h .range) .few
+sound-entered : (st : State) (p : Process) (kind : Kind) → Sound st → Full st → p .0 < st .n → Sound (entered st p kind .state)
+unfolding entered
+sound-entered st p kind h full below =
+    record {
+      range = h .range;
+      word = after .word;
+      each = λ j l.
+          parts-with
+          (record-by st p (given st p kind) (left st p kind) (SoundOwn (st .n) (st .s)) (after .own) j (own-of (h .each j l)) (omega (arith, below, few, full .records)))
+          (row-by st p (given st p kind) (left st p kind) (λ row. isOld (row .«old_number») (st .s .0) ≡ true) (after .old) j (h .each j l .old) (omega (arith, q-below, few, full .rows)));
+    }
+  where
+    few : st .n ≤ 16
+    few = range-of (st .n) (st .s) (h .range) .few
 
-  mine : SoundOwn (st .n) (st .s) (recordAt st (p .0))
-  mine = own-of (h .each (p .0) below)
+    mine : SoundOwn (st .n) (st .s) (recordAt st (p .0))
+    mine = own-of (h .each (p .0) below)
 
-  sound-request : (request : Request) → Sound (requested st p request .state)
-  unfolding requested
-  sound-request request =
-      record {
-        range = h .range;
-        word = h .word;
-        each = λ j l.
-            replaced (λ own. SoundParts (st .n) (st .s) own (rowAt st j)) noRecord (st .records) (p .0) (requestOf (st .s) (recordAt st (p .0)) request .own)
-            (parts-with (asked-sound (st .n) (st .s) (recordAt st (p .0)) request mine) (h .each j l .old)) j (h .each j l) (omega (arith, below, few, full .records));
-      }
+    q-below : given st p kind .0 < st .n
+    q-below = given-below p (recordAt st (p .0)) kind (st .n) below (mine .kept .owner)
 
-  -- the row that p's step reaches, and its owner
-  q : Process
-  q = reached p (recordAt st (p .0))
-
-  q-below : q .0 < st .n
-  unfolding q
-  q-below = row-below p (recordAt st (p .0)) (st .n) below (mine .kept .owner)
-
-  left : Left (st .n) (st .s) (stepOf p (st .x) (recordAt st (p .0)) (rowAt st (q .0)))
-  left = left-by-step (st .n) (st .s) p (st .x) (recordAt st (p .0)) (rowAt st (q .0)) below (h .word) mine (h .each (q .0) q-below .old)
-
-  sound-step : Sound (stepped st p .state)
-  unfolding stepped q
-  sound-step =
-      record {
-        range = h .range;
-        word = left .word;
-        each = λ j l.
-            parts-with
-            (replaced (SoundOwn (st .n) (st .s)) noRecord (st .records) (p .0) _ (left .own) j (own-of (h .each j l)) (omega (arith, below, few, full .records)))
-            (replaced (λ row. isOld (row .«old_number») (st .s .0) ≡ true) noRow (st .rows) (q .0) _ (left .old) j (h .each j l .old) (omega (arith, q-below, few, full .rows)));
-      }
+    after : Left (st .n) (st .s) (left st p kind)
+    after =
+        left-by-entry (st .n) (st .s) p (st .x) (recordAt st (p .0)) (rowAt st (given st p kind .0)) below (h .word) mine (h .each (given st p kind .0) q-below .old) kind
 
 pub sound-kept : (st : State) (p : Process) (kind : Kind) → Sound st → Full st → Sound (called st p kind .state)
-sound-kept st p kind h full =
-    by-call (λ a. Sound (a .state)) st p kind
-    (λ outcome. h)
-    (λ e below request. sound-request st p h full below request)
-    (λ e below. sound-step st p h full below)
+sound-kept st p kind h full = by-call (λ a. Sound (a .state)) st p kind (λ outcome. h) (λ e below. sound-entered st p kind h full below)
 
 -- Process 0 of the start, and the others.
 first-or-later : {A : Type 0} (P : A → Type 0) (a b d : A) → P a → P b → (j : ℕ) → j < 16 → P (getD (a ∷ replicate 15 b) j d)
@@ -197,8 +173,8 @@ start-sound n s v e =
       each = λ j l.
           parts-with
           (first-or-later (SoundOwn n s) (firstRecord 2) (firstRecord 1) noRecord
-          (record { kept = none; low = omega arith; high = omega (arith, r .two); store = no-store })
-          (record { kept = none; low = omega arith; high = omega arith; store = no-store })
+          (record { kept = none; low = omega arith; high = omega (arith, r .two); store = λ t. absurd (false≢true t) })
+          (record { kept = none; low = omega arith; high = omega arith; store = λ t. absurd (false≢true t) })
           j (omega (arith, l, r .few)))
           (first-or-later (λ row. isOld (row .«old_number») (s .0) ≡ true) (firstRow v (pos 0)) (firstRow v (negsuc 0)) noRow
           (leb·zero (s .0)) refl j (omega (arith, l, r .few)));

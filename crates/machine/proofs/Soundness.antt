@@ -1,60 +1,30 @@
 -- What soundness says, fact by fact. The test computes; these records are what proofs use, and each is the same as its test.
-use Prim.Native.Nat.{ℕ, zero, suc, _+_, _≤_, _<_}
+use Prim.Native.Nat.{ℕ, _+_, _≤_, _<_}
 use mathlib.Core.Path.{_≡_, refl, sym, subst}
 use mathlib.Core.Bool.{Bool, true, false, not, _&&_, _||_}
 use native.Mathlib.Omega.{arith}
-use native.Mathlib.Decide.{decLt}
 use lib.Dec.{T, leb, ltb}
 use borrow.Author.Tests.{ltb-true, leb-true, lt-ltb, le-leb}
+use Rattle.numbers.specs.Range.{inRange}
+use Rattle.numbers.specs.Below.{allBelow}
+use Rattle.numbers.proofs.Range.{range-of}
+use Rattle.numbers.proofs.Below.{all-at, all-intro}
 use Rattle.step.specs.Number.{isOld}
 use Rattle.step.specs.Steps.{reached, reachedAt}
-use Rattle.step.specs.declared.Process.{Process}
-use Rattle.step.specs.declared.Sequence.{Sequence}
+use Rattle.numbers.specs.declared.Process.{Process}
+use Rattle.numbers.specs.declared.Sequence.{Sequence}
 use Rattle.step.specs.declared.Tag.{Tag}
 use Rattle.step.specs.declared.Row.{Row}
 use Rattle.step.specs.declared.Record.{Record}
 use Rattle.step.specs.declared.Place.{Place}
 use Rattle.step.specs.declared.Place.the-variants.{Idle, Load1, Load2, Load3, Load5, Store7, Store8, Store9, Store10, Check14}
-use Rattle.machine.specs.State.{inRange, soundTag, soundNext, storing, soundStore, soundRecord, soundParts, soundProcess, allBelow, sound, rowAt, recordAt}
-use Rattle.machine.specs.Parts.{rowGiven}
+use Rattle.machine.specs.State.{soundTag, soundNext, storing, soundStore, soundParts, soundProcess, sound, rowAt, recordAt}
+use Rattle.machine.specs.Entry.{rowGiven}
+use Rattle.machine.specs.Frame.{Ready}
 use Rattle.machine.specs.declared.State.{State}
-use Rattle.machine.specs.declared.Kind.{Kind}
-use Rattle.machine.specs.declared.Kind.the-variants.{Load, Store, Check, Step}
+use Rattle.step.specs.declared.Kind.{Kind}
+use Rattle.step.specs.declared.Kind.the-variants.{Ask, Step}
 use Rattle.machine.proofs.Tests.{and-left, and-right, and-both}
-
--- "whether a test passes for each number below n" says just that
-pub all-at : (n : ℕ) (test : ℕ → Bool) → allBelow n test ≡ true → (p : ℕ) → p < n → test p ≡ true
-unfolding allBelow
-all-at zero test e p h = absurd (omega (arith, h))
-all-at (suc n) test e p h = go (decLt p n) (λ l. all-at n test (and-left (allBelow n test) (test n) e) p l)
-  where
-    go : Dec (p < n) → (p < n → test p ≡ true) → test p ≡ true
-    go (yes l) below = below l
-    go (no ge) below =
-        let top : n ≡ p = omega (arith, h, ge) in
-        subst (λ (k : ℕ). test k ≡ true) top (and-right (allBelow n test) (test n) e)
-
-pub all-intro : (n : ℕ) (test : ℕ → Bool) → ((p : ℕ) → p < n → test p ≡ true) → allBelow n test ≡ true
-unfolding allBelow
-all-intro zero test f = refl
-all-intro (suc n) test f = and-both (allBelow n test) (test n) (all-intro n test (λ p l. f p (omega (arith, l)))) (f n (omega arith))
-
-pub record InRange (n : ℕ) (s : Sequence) : Type 0 where
-  pub some : 1 ≤ n
-  pub few : n ≤ 16
-  pub two : 2 ≤ s .0
-  pub last : s .0 ≤ 4294967295
-
-pub range-of : (n : ℕ) (s : Sequence) → inRange n s ≡ true → InRange n s
-range-of n s e =
-    let p = and-left (leb 1 n && leb n 16) (leb 2 (s .0) && leb (s .0) 4294967295) e in
-    let q = and-right (leb 1 n && leb n 16) (leb 2 (s .0) && leb (s .0) 4294967295) e in
-    record {
-      some = leb-true 1 n (and-left (leb 1 n) (leb n 16) p);
-      few = leb-true n 16 (and-right (leb 1 n) (leb n 16) p);
-      two = leb-true 2 (s .0) (and-left (leb 2 (s .0)) (leb (s .0) 4294967295) q);
-      last = leb-true (s .0) 4294967295 (and-right (leb 2 (s .0)) (leb (s .0) 4294967295) q);
-    }
 
 pub record SoundTag (n : ℕ) (s : Sequence) (tag : Tag) : Type 0 where
   pub owner : tag .process .0 < n
@@ -153,17 +123,19 @@ row-below p own n h k = go (own .place)
     go Store10 = h
     go Check14 = h
 
--- The row that an entry is given is its seat's or the one that a step reaches.
-pub given-below : (seat : ℕ) (own : Record) (kind : Kind) (n : ℕ) → seat < n → own .kept .process .0 < n → rowGiven seat own kind < n
-given-below seat own Load n h k = h
-given-below seat own (Store v) n h k = h
-given-below seat own Check n h k = h
-given-below seat own Step n h k = row-below (record { 0 = seat }) own n h k
+-- The row that an entry is given is its process's own or the one that a step reaches.
+pub given-below : (p : Process) (own : Record) (kind : Kind) (n : ℕ) → p .0 < n → own .kept .process .0 < n → rowGiven p own kind .0 < n
+given-below p own (Ask request) n h k = h
+given-below p own Step n h k = row-below p own n h k
 
 -- A process below N of a sound state, and the row that its entry is given, are among the 16.
-pub within-sixteen : (st : State) (p : Process) (kind : Kind) → sound st ≡ true → p .0 < st .n → (p .0 < 16) × (rowGiven (p .0) (recordAt st (p .0)) kind < 16)
+pub within-sixteen : (st : State) (p : Process) (kind : Kind) → sound st ≡ true → p .0 < st .n → (p .0 < 16) × (rowGiven p (recordAt st (p .0)) kind .0 < 16)
 within-sixteen st p kind e h =
     let sure = sound-of st e in
     let few = range-of (st .n) (st .s) (sure .range) .few in
-    let row = given-below (p .0) (recordAt st (p .0)) kind (st .n) h (sure .each (p .0) h .kept .owner) in
+    let row = given-below p (recordAt st (p .0)) kind (st .n) h (sure .each (p .0) h .kept .owner) in
     (omega (arith, h, few), omega (arith, row, few))
+
+-- a state that a run can go on from is sound, fact by fact
+pub sure : {st : State} → Ready st → Sound st
+sure {st} h = sound-of st (h .tested)

@@ -3,57 +3,64 @@ use Prim.Native.Nat.{ℕ}
 use mathlib.Core.Bool.{cond}
 use lib.Dec.{ltb}
 use lib.ListN.{set}
-use Rattle.step.specs.Steps.{stepOf, reached}
+use Rattle.numbers.specs.declared.Process.{Process}
+use Rattle.numbers.specs.declared.Sequence.{Sequence}
+use Rattle.step.specs.Steps.{asWas, stepOf, reached}
 use Rattle.step.specs.Requests.{requestOf}
-use Rattle.step.specs.declared.Process.{Process}
+use Rattle.step.specs.declared.Tag.{Tag}
+use Rattle.step.specs.declared.Row.{Row}
 use Rattle.step.specs.declared.Record.{Record}
-use Rattle.step.specs.declared.Request.{Request}
+use Rattle.step.specs.declared.Kind.{Kind}
+use Rattle.step.specs.declared.Kind.the-variants.{Ask, Step}
 use Rattle.step.specs.declared.Requested.{Requested}
 use Rattle.step.specs.declared.Stepped.{Stepped}
 use Rattle.step.specs.declared.Outcome.{Outcome}
 use Rattle.step.specs.declared.Outcome.the-variants.{NoProcess, Unsound}
 use Rattle.machine.specs.State.{sound, rowAt, recordAt}
 use Rattle.machine.specs.declared.State.{State}
-use Rattle.machine.specs.declared.Kind.{Kind}
-use Rattle.machine.specs.declared.Kind.the-variants.{Load, Store, Check, Step}
 use Rattle.machine.specs.declared.Answer.{Answer}
+
+-- Which process's row an entry of p is given: a step's is the one that it reaches. A request "reaches no register": it is given p's own
+-- and hands it back as it was.
+abbrev pub rowGiven : Process → Record → Kind → Process
+rowGiven p own (Ask request) = p
+rowGiven p own Step = reached p own
+
+abbrev pub withParts : Tag → Row → Requested → Stepped
+withParts x row r = record { x = x; own = r .own; row = row; outcome = r .outcome }
+
+-- "A request starts a call and reaches no register. A step entry then runs the next step of the named process."
+abbrev pub partsAfter : Sequence → Process → Tag → Record → Row → Kind → Stepped
+partsAfter s p x own row (Ask request) = withParts x row (requestOf s own request)
+partsAfter s p x own row Step = stepOf p x own row
+
+-- An entry of p leaves X, the row of q that it was given, and p's own record; everything else stays.
+abbrev pub withEntry : State → Process → Process → Stepped → State
+withEntry st p q m =
+    record { n = st .n; s = st .s; x = m .x; rows = set (st .rows) (q .0) (m .row); records = set (st .records) (p .0) (m .own) }
+
+abbrev pub answerWith : State → Process → Process → Stepped → Answer
+answerWith st p q m = record { state = withEntry st p q m; outcome = m .outcome }
+
+-- an entry of a process that is there
+unfoldable pub entered : State → Process → Kind → Answer
+entered st p kind =
+    let own = recordAt st (p .0) in
+    let q = rowGiven p own kind in
+    answerWith st p q (partsAfter (st .s) p (st .x) own (rowAt st (q .0)) kind)
 
 -- "state the same"
 abbrev pub refused : State → Outcome → Answer
 refused st outcome = record { state = st; outcome = outcome }
 
--- "A request starts a call and reaches no register": only p's record can change
-abbrev pub withRecord : State → ℕ → Record → State
-withRecord st p own = record { n = st .n; s = st .s; x = st .x; rows = st .rows; records = set (st .records) p own }
-
-abbrev pub withRequested : State → ℕ → Requested → Answer
-withRequested st p r = record { state = withRecord st p (r .own); outcome = r .outcome }
-
-unfoldable pub requested : State → Process → Request → Answer
-requested st p request = withRequested st (p .0) (requestOf (st .s) (recordAt st (p .0)) request)
-
--- A step of p leaves X, p's own record, and the row of q that it was given; everything else stays.
-abbrev pub withStepped : State → ℕ → ℕ → Stepped → Answer
-withStepped st p q m =
-    record {
-      state = record { n = st .n; s = st .s; x = m .x; rows = set (st .rows) q (m .row); records = set (st .records) p (m .own) };
-      outcome = m .outcome;
-    }
-
--- "A step entry then runs the next step of the named process."
-unfoldable pub stepped : State → Process → Answer
-stepped st p =
-    let own = recordAt st (p .0) in
-    let q = reached p own .0 in
-    withStepped st (p .0) q (stepOf p (st .x) own (rowAt st q))
-
--- "A direct call's kind is one of four cases."
-abbrev pub entered : State → Process → Kind → Answer
-entered st p Load = requested st p Request.Load
-entered st p (Store v) = requested st p (Request.Store v)
-entered st p Check = requested st p Request.Check
-entered st p Step = stepped st p
-
 -- "Order for an entry: 15, 11, then 12 and 13 for a request, or 14 for a step." The last three are the request's and the step's own.
 unfoldable pub called : State → Process → Kind → Answer
 called st p kind = cond (sound st) (cond (ltb (p .0) (st .n)) (entered st p kind) (refused st NoProcess)) (refused st Unsound)
+
+-- The same over the parts alone, for a run that keeps the state itself and knows it sound (`played-by-parts` in proofs/): a process that
+-- is not there is given the first record, and 11.
+abbrev pub seatOf : ℕ → Process → Process
+seatOf n p = cond (ltb (p .0) n) p (record { 0 = 0 })
+
+unfoldable pub playedParts : ℕ → Sequence → Process → Tag → Record → Row → Kind → Stepped
+playedParts n s p x own row kind = cond (ltb (p .0) n) (partsAfter s p x own row kind) (asWas x own row NoProcess)

@@ -2,6 +2,7 @@ pub mod State
 pub mod Opening
 pub mod Entry
 pub mod Run
-pub mod Refusal
-pub mod Parts
+pub mod Frame
+pub mod Registers
+pub mod Numbers
 pub mod Table

@@ -1,16 +1,15 @@
 -- Document 01, "Registers and records": how everything starts.
 use Prim.Native.Nat.{ℕ}
 use mathlib.Core.Bool.{cond}
-use mathlib.Core.List.{List, [], _∷_}
+use mathlib.Core.List.{[], _∷_}
 use lib.IntN.{ℤ, pos, negsuc}
 use lib.ListN.{replicate}
-use Rattle.step.specs.declared.Process.{Process}
-use Rattle.step.specs.declared.Sequence.{Sequence}
-use Rattle.step.specs.declared.Tag.{Tag}
+use Rattle.numbers.specs.declared.Sequence.{Sequence}
 use Rattle.step.specs.declared.Row.{Row}
 use Rattle.step.specs.declared.Record.{Record}
 use Rattle.step.specs.declared.Place.the-variants.{Idle}
-use Rattle.machine.specs.State.{inRange, noTag}
+use Rattle.numbers.specs.Range.{inRange}
+use Rattle.machine.specs.State.{noTag}
 use Rattle.machine.specs.declared.State.{State}
 use Rattle.machine.specs.declared.Start.{Start}
 use Rattle.machine.specs.declared.Start.the-variants.{Ready, OutOfRange}

@@ -1,24 +1,21 @@
 -- A run: entries as data, played one after another, and what the log says of each.
-use Prim.Native.Nat.{ℕ, zero, suc}
-use mathlib.Core.Bool.{Bool, true, false, not, cond}
+use Prim.Native.Nat.{ℕ, suc}
+use mathlib.Core.Bool.{Bool, not, cond}
 use mathlib.Core.List.{List, [], _∷_}
 use lib.Dec.{leb}
 use Rattle.step.specs.Number.{sameTag}
 use Rattle.step.specs.Steps.{ownSteps}
 use Rattle.step.specs.Outcomes.{toldOf}
-use Rattle.step.specs.declared.Process.{Process}
+use Rattle.numbers.specs.declared.Process.{Process}
 use Rattle.step.specs.declared.Place.{Place}
 use Rattle.step.specs.declared.Outcome.{Outcome}
 use Rattle.machine.specs.State.{recordAt}
 use Rattle.machine.specs.Entry.{called}
 use Rattle.machine.specs.declared.State.{State}
-use Rattle.machine.specs.declared.Kind.{Kind}
-use Rattle.machine.specs.declared.Kind.the-variants.{Load, Store, Check, Step}
+use Rattle.step.specs.declared.Kind.{Kind}
+use Rattle.step.specs.declared.Kind.the-variants.{Ask, Step}
+use Rattle.step.specs.declared.Entry.{Entry}
 use Rattle.machine.specs.declared.Answer.{Answer}
-
-pub record Entry : Type 0 where
-  pub process : Process
-  pub kind : Kind
 
 -- The fields of a record of the log, and whether X changed.
 pub record Note : Type 0 where
@@ -38,9 +35,7 @@ turnedAway outcome = leb 11 (toldOf outcome .number)
 
 -- "own steps of this call so far with this one (0 for a request or a refused entry)", by the place before the entry
 abbrev pub stepsBy : Place → Kind → Outcome → ℕ
-stepsBy place Load outcome = 0
-stepsBy place (Store v) outcome = 0
-stepsBy place Check outcome = 0
+stepsBy place (Ask request) outcome = 0
 stepsBy place Step outcome = cond (turnedAway outcome) 0 (ownSteps place)
 
 abbrev pub stepsOf : State → Process → Kind → Outcome → ℕ

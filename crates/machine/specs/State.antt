@@ -1,23 +1,20 @@
 -- Document 01, "Registers and records": the state, its rows and records, and what is unsound.
-use Prim.Native.Nat.{ℕ, zero, suc, _+_}
+use Prim.Native.Nat.{ℕ, _+_}
 use mathlib.Core.Bool.{Bool, true, false, not, _&&_, _||_}
-use mathlib.Core.List.{List, []}
+use mathlib.Core.List.{[]}
 use lib.Dec.{leb, ltb}
 use lib.IntN.{pos}
-use lib.ListN.{getD, set}
+use lib.ListN.{getD}
+use Rattle.numbers.specs.Range.{inRange}
+use Rattle.numbers.specs.Below.{allBelow}
 use Rattle.step.specs.Number.{isOld}
-use Rattle.step.specs.declared.Process.{Process}
-use Rattle.step.specs.declared.Sequence.{Sequence}
+use Rattle.numbers.specs.declared.Sequence.{Sequence}
 use Rattle.step.specs.declared.Tag.{Tag}
 use Rattle.step.specs.declared.Row.{Row}
 use Rattle.step.specs.declared.Record.{Record}
 use Rattle.step.specs.declared.Place.{Place}
 use Rattle.step.specs.declared.Place.the-variants.{Idle, Load1, Load2, Load3, Load5, Store7, Store8, Store9, Store10, Check14}
 use Rattle.machine.specs.declared.State.{State}
-
--- "N is the number of processes, 1 to 16. S is the last usable sequence number, 2 to 4,294,967,295."
-abbrev pub inRange : ℕ → Sequence → Bool
-inRange n s = (leb 1 n && leb n 16) && (leb 2 (s .0) && leb (s .0) 4294967295)
 
 -- past the 16th there is no row and no record; these stand for them
 abbrev pub noTag : Tag
@@ -70,11 +67,6 @@ soundParts n s own row = soundRecord n s own && isOld (row .«old_number») (s .
 
 abbrev pub soundProcess : State → ℕ → Bool
 soundProcess st p = soundParts (st .n) (st .s) (recordAt st p) (rowAt st p)
-
--- whether a test passes for each number below n
-unfoldable pub allBelow : ℕ → (ℕ → Bool) → Bool
-allBelow zero test = true
-allBelow (suc n) test = allBelow n test && test n
 
 -- "Unsound: N or S out of range; or, for X or a process below N: .."
 unfoldable pub sound : State → Bool

@@ -5,9 +5,12 @@ use mathlib.Core.Path.{_≡_}
 use mathlib.Core.Bool.{Bool, true, false}
 use mathlib.Core.List.{List, [], _∷_, _++_, map}
 use Rattle.machine.specs.Opening.{startOf}
-use Rattle.machine.specs.Run.{Entry, Note, notes}
-use Rattle.machine.specs.declared.Kind.{Kind}
-use Rattle.machine.specs.declared.Kind.the-variants.{Load, Store, Check, Step}
+use Rattle.machine.specs.Run.{Note, notes}
+use Rattle.step.specs.declared.Entry.{Entry}
+use Rattle.step.specs.declared.Kind.{Kind}
+use Rattle.step.specs.declared.Kind.the-variants.{Ask, Step}
+use Rattle.step.specs.declared.Request.{Request}
+use Rattle.step.specs.declared.Request.the-variants.{Load, Store, Check}
 
 pub record Line : Type 0 where
   pub entry : Entry
@@ -22,8 +25,8 @@ line p kind outcome steps mark value changed =
     }
 
 -- a request that is taken; a step after which the call goes on; the step 8 that changes X
-abbrev pub asks : ℕ → Kind → Line
-asks p kind = line p kind 0 0 0 0 false
+abbrev pub asks : ℕ → Request → Line
+asks p request = line p (Ask request) 0 0 0 0 false
 
 abbrev pub goes : ℕ → ℕ → Line
 goes p steps = line p Step 1 steps 0 0 false
@@ -44,8 +47,8 @@ notDone p = line p Step 4 2 0 0 false
 abbrev pub saysNo : ℕ → Line
 saysNo p = line p Step 6 1 0 0 false
 
-abbrev pub turned : ℕ → Kind → ℕ → Line
-turned p kind number = line p kind number 0 0 0 false
+abbrev pub away : ℕ → Kind → ℕ → Line
+away p kind number = line p kind number 0 0 0 false
 
 -- whole calls: a load of three steps, a store that is done, its first two steps, a store that is not done
 abbrev pub LL : ℕ → ℕ → List Line
@@ -69,7 +72,7 @@ abbrev pub Right : ℕ → ℕ → ℕ → List Line → Type 0
 Right n s v lines = notes (startOf n (record { 0 = s }) v .state) (map (λ l. l .entry) lines) ≡ map (λ l. l .says) lines
 
 -- "V is 7, S 9, N 2 unless said."
-pub record Runs : Type 0 where
+pub record RunsAToL : Type 0 where
   pub A : Right 1 9 7 (LL 0 7)
   pub B : Right 2 9 7 (SCfails 1 40)
   pub C : Right 2 9 7 (asks 0 Check ∷ saysNo 0 ∷ [])
@@ -79,6 +82,6 @@ pub record Runs : Type 0 where
   pub G : Right 2 9 7 (LL 0 7 ++ (SCtwo 0 20 ++ LL 1 20))
   pub H : Right 2 9 7 (behind ++ (asks 0 (Store 30) ∷ goes 0 1 ∷ goes 1 2 ∷ goes 1 3 ∷ gives 1 4 2 7 ∷ []))
   pub I : Right 2 9 7 (behind ++ (SC 0 30 ++ (goes 1 2 ∷ goes 1 3 ∷ gives 1 4 2 20 ∷ [])))
-  pub J : Right 1 2 7 (LL 0 7 ++ (SC 0 5 ++ (LL 0 5 ++ (turned 0 (Store 6) 13 ∷ []))))
-  pub K : Right 2 9 7 (asks 0 Load ∷ turned 0 Load 12 ∷ [])
-  pub L : Right 2 9 7 (turned 2 Step 11 ∷ turned 1 Step 14 ∷ [])
+  pub J : Right 1 2 7 (LL 0 7 ++ (SC 0 5 ++ (LL 0 5 ++ (away 0 (Ask (Store 6)) 13 ∷ []))))
+  pub K : Right 2 9 7 (asks 0 Load ∷ away 0 (Ask Load) 12 ∷ [])
+  pub L : Right 2 9 7 (away 2 Step 11 ∷ away 1 Step 14 ∷ [])

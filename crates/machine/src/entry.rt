@@ -2,33 +2,29 @@
 ghost use mathlib.Core.Path.{_≡_};
 ghost use Prim.Native.Nat.{_<_};
 ghost use Rattle.machine.specs.State.{recordAt};
-ghost use Rattle.machine.specs.Entry.{entered, called};
-ghost use Rattle.machine.specs.Parts.{rowGiven};
+ghost use Rattle.machine.specs.Entry.{rowGiven, entered, called};
 use crate::Answer;
-use crate::Kind;
 use crate::State;
-use crate::parts::kind_parts;
+use crate::parts::parts_after;
 use crate::parts::row_given;
 use crate::sound::is_sound;
+use numbers::Process;
+use step::Kind;
 use step::Outcome;
-use step::Process;
-use step::Request;
-use step::call::reached_row;
-use step::call::request;
-use step::call::step;
 
 // An entry of a process that is there: its record and its row go out, and what it leaves of them comes back.
 fn enter(st: State, p: Process, kind: Kind) -> Answer
-    requires { ⌜ (p .0 < 16) × (rowGiven (p .0) (recordAt st (p .0)) kind < 16) ⌝ }
+    requires { ⌜ (p .0 < 16) × (rowGiven p (recordAt st (p .0)) kind .0 < 16) ⌝ }
     ensures { λ r. ⌜ r ≡ entered st p kind ⌝ }
 {
     let i = p.0;
     let s = st.s;
     let x = st.x;
     let own = st.records[i];
-    let j = row_given(i, own, kind);
+    let q = row_given(p, own, kind);
+    let j = q.0;
     let row = st.rows[j];
-    let m = kind_parts(s, p, x, own, row, kind);
+    let m = parts_after(s, p, x, own, row, kind);
     let now = m.x;
     let left = m.own;
     let written = m.row;

@@ -1,10 +1,9 @@
 // The whole machine as one value: start, the soundness test, and a direct call of one of four kinds. A caller may hand in any
 // state whatever; what is unsound is turned away before anything else is looked at.
+use numbers::Sequence;
 use step::Outcome;
-use step::Process;
 use step::Record;
 use step::Row;
-use step::Sequence;
 use step::Tag;
 
 pub mod entry;
@@ -19,14 +18,6 @@ pub struct State {
     pub x: Tag,
     pub rows: [Row; 16],
     pub records: [Record; 16],
-}
-
-// A direct call: one of three requests, or the next step.
-pub enum Kind {
-    Load,
-    Store(u64),
-    Check,
-    Step,
 }
 
 pub struct Answer {

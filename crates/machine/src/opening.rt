@@ -1,29 +1,16 @@
 // The start of a machine.
 ghost use mathlib.Core.Path.{_≡_};
-ghost use Rattle.machine.specs.State.{inRange};
 ghost use Rattle.machine.specs.Opening.{firstState, zeroState, startOf, startNumber};
 use crate::Start;
 use crate::Started;
 use crate::State;
+use numbers::Process;
+use numbers::Sequence;
+use numbers::in_range;
 use step::Place;
-use step::Process;
 use step::Record;
 use step::Row;
-use step::Sequence;
 use step::Tag;
-use step::number::both;
-
-// N is 1 to 16 and S is 2 to 4,294,967,295.
-pub fn in_range(n: usize, s: Sequence) -> bool
-    ensures { λ r. ⌜ r ≡ inRange n s ⌝ }
-{
-    let k = s.0;
-    let some = 1 <= n;
-    let few = n <= 16;
-    let two = 2 <= k;
-    let last = k <= 4294967295;
-    both(both(some, few), both(two, last))
-}
 
 fn first_state(n: usize, s: Sequence, v: u64) -> State
     ensures { λ r. ⌜ r ≡ firstState n s v ⌝ }

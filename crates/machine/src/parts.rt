@@ -1,16 +1,17 @@
 // An entry over small parts, for a direct call and for a loop that keeps the state itself: which record and which row the entry is given, and what
 // it leaves of X and of these two. Nothing here looks whether the state is sound.
 ghost use mathlib.Core.Path.{_≡_};
-ghost use Rattle.machine.specs.Parts.{seatOf, rowGiven, askedParts, kindParts, playedParts};
+ghost use Rattle.step.specs.Requests.{requestOf};
+ghost use Rattle.machine.specs.Entry.{rowGiven, withParts, partsAfter, seatOf, playedParts};
 ghost use Rattle.machine.specs.Run.{stepsBy};
-use crate::Kind;
+use numbers::Process;
+use numbers::Sequence;
+use step::Kind;
 use step::Outcome;
 use step::Place;
-use step::Process;
 use step::Record;
 use step::Request;
 use step::Row;
-use step::Sequence;
 use step::Stepped;
 use step::Tag;
 use step::answer::tell;
@@ -20,29 +21,25 @@ use step::call::request;
 use step::call::step;
 
 // Whose record an entry of process p is given: p's, and for a process that is not there the first.
-pub fn seat_of(n: usize, p: Process) -> usize
+pub fn seat_of(n: usize, p: Process) -> Process
     ensures { λ r. ⌜ r ≡ seatOf n p ⌝ }
 {
     let i = p.0;
-    if i < n { i } else { 0 }
+    if i < n { p } else { Process(0) }
 }
 
-// Whose row it is given: for a step the one that a step of that record reaches, else the one beside it.
-pub fn row_given(seat: usize, own: Record, kind: Kind) -> usize
-    ensures { λ r. ⌜ r ≡ rowGiven seat own kind ⌝ }
+// Whose row it is given: a step's is the one that it reaches, a request's its own.
+pub fn row_given(p: Process, own: Record, kind: Kind) -> Process
+    ensures { λ r. ⌜ r ≡ rowGiven p own kind ⌝ }
 {
-    let q = reached_row(Process(seat), own);
-    let j = q.0;
     match kind {
-        Kind::Load => seat,
-        Kind::Store(_) => seat,
-        Kind::Check => seat,
-        Kind::Step => j,
+        Kind::Ask(_) => p,
+        Kind::Step => reached_row(p, own),
     }
 }
 
 fn ask_parts(s: Sequence, x: Tag, own: Record, row: Row, asked: Request) -> Stepped
-    ensures { λ r. ⌜ r ≡ askedParts s x own row asked ⌝ }
+    ensures { λ r. ⌜ r ≡ withParts x row (requestOf s own asked) ⌝ }
 {
     let r = request(s, own, asked);
     let left = r.own;
@@ -55,7 +52,8 @@ fn ask_parts(s: Sequence, x: Tag, own: Record, row: Row, asked: Request) -> Step
     }
 }
 
-pub(crate) fn kind_parts(
+// What an entry of p leaves of X, its record and the row that it is given.
+pub(crate) fn parts_after(
     s: Sequence,
     p: Process,
     x: Tag,
@@ -63,12 +61,10 @@ pub(crate) fn kind_parts(
     row: Row,
     kind: Kind,
 ) -> Stepped
-    ensures { λ r. ⌜ r ≡ kindParts s p x own row kind ⌝ }
+    ensures { λ r. ⌜ r ≡ partsAfter s p x own row kind ⌝ }
 {
     match kind {
-        Kind::Load => ask_parts(s, x, own, row, Request::Load),
-        Kind::Store(v) => ask_parts(s, x, own, row, Request::Store(v)),
-        Kind::Check => ask_parts(s, x, own, row, Request::Check),
+        Kind::Ask(asked) => ask_parts(s, x, own, row, asked),
         Kind::Step => step(p, x, own, row),
     }
 }
@@ -87,7 +83,7 @@ pub fn play_parts(
 {
     let i = p.0;
     if i < n {
-        kind_parts(s, p, x, own, row, kind)
+        parts_after(s, p, x, own, row, kind)
     } else {
         Stepped {
             x: x,
@@ -106,9 +102,7 @@ pub fn steps_by(place: Place, kind: Kind, outcome: Outcome) -> u8
     let number = told.number;
     let steps = own_steps(place);
     match kind {
-        Kind::Load => 0,
-        Kind::Store(_) => 0,
-        Kind::Check => 0,
+        Kind::Ask(_) => 0,
         Kind::Step => { if 11 <= number { 0 } else { steps } }
     }
 }

@@ -1,15 +1,16 @@
 // What is sound. Each test is a flag, so that a scan never leaves early and every condition is looked at.
 ghost use mathlib.Core.Path.{_≡_};
 ghost use Prim.Native.Nat.{_≤_};
-ghost use Rattle.machine.specs.State.{soundTag, soundNext, storing, soundStore, soundRecord, soundParts, soundProcess, allBelow, sound};
+ghost use Rattle.numbers.specs.Below.{allBelow};
+ghost use Rattle.machine.specs.State.{soundTag, soundNext, storing, soundStore, soundRecord, soundParts, soundProcess, sound};
 use crate::State;
-use crate::opening::in_range;
+use numbers::Sequence;
+use numbers::both;
+use numbers::in_range;
 use step::Place;
 use step::Record;
 use step::Row;
-use step::Sequence;
 use step::Tag;
-use step::number::both;
 use step::number::old_in_range;
 
 pub fn tag_is_sound(n: usize, s: Sequence, tag: Tag) -> bool

@@ -5,33 +5,24 @@ use mathlib.Core.Bool.{Bool, true, false, cond, not, _&&_, false≢true, and-eq-
 use mathlib.Core.List.{List, []}
 use Prim.Native.Nat.{ℕ, zero, suc, _+_, _-_, _*_, _/_, _%_, _≤_, _<_}
 use native.Mathlib.Nat.{add-zero}
-use native.Mathlib.Decide.{decLt}
 use native.Mathlib.Omega.{arith}
 use borrow.Author.Tests.{eqb-true, leb-true, eq-eqb, ne-eqb}
 use lib.ListN.{length, getD, take, drop, length-append}
 use lib.Dec.{eqb, leb}
-use Rattle.schedule.specs.Bytes.{allBelow, number}
+use Rattle.numbers.specs.Range.{inRange}
+use Rattle.numbers.proofs.Below.{all-at}
+use Rattle.step.specs.declared.Kind.the-variants.{Ask, Step}
+use Rattle.step.specs.declared.Request.the-variants.{Load, Store, Check}
+use Rattle.schedule.specs.Bytes.{number}
 use Rattle.schedule.specs.Check.{checkOf, checkFine, placeFine, blockNumber}
-use Rattle.schedule.specs.Block0.{rangeFine, headN, headS, headV, headBlocks, headClear, headFine, headNumber}
-use Rattle.schedule.specs.Later.{kind, process, value, kindFine, entryClear, entryFine, meant}
+use Rattle.schedule.specs.Block0.{startN, startS, startV, laterBlocks, firstClear, firstFine, firstNumber}
+use Rattle.schedule.specs.Later.{kind, process, value, kindFine, entryClear, entryFine, entryBy, noEntry, meant}
 use Rattle.schedule.specs.Later.{count, entryBytes, entriesFine, restClear, laterFine, laterNumber, usedPart, acceptedPart, entryAt}
-use Rattle.schedule.specs.File.{lengthFine, blockAt, blocksAfter, entriesTo, fileEntries, found, inTurn, said, reading, isAccepted}
-use Rattle.schedule.specs.declared.Entry.the-variants.{Load, Store, Check, Step, Nothing}
+use Rattle.schedule.specs.File.{lengthFine, blockAt, blocksAfter, entriesTo, fileEntries, found, inTurn, acceptedAs, reading, isAccepted}
 use Rattle.schedule.specs.declared.Reading.{Reading}
 use Rattle.schedule.specs.declared.Reading.the-variants.{Refused, Accepted}
 use Rattle.schedule.proofs.Laws.{part-length}
 use Rattle.schedule.proofs.Entries.{block-entries, block-entry, entry-stands, entry-bytes, part-bytes, used-is, used-entry}
-
--- what holds of every number below n holds of j
-all-at : (n : ℕ) (f : ℕ → Bool) → allBelow n f ≡ true → (j : ℕ) → j < n → f j ≡ true
-all-at zero f h j l = absurd (omega arith)
-all-at (suc n) f h j l = go (and-eq-true-iff (allBelow n f) (f n) .0 h) (λ g m. all-at n f g j m) (decLt j n)
-  where
-    go : (allBelow n f ≡ true) × (f n ≡ true) → (allBelow n f ≡ true → j < n → f j ≡ true) → Dec (j < n) → f j ≡ true
-    go h below (yes m) = below (h .0) m
-    go h below (no m) =
-        let e : j ≡ n = omega (arith, m) in
-        rw e (h .1)
 
 -- a block that no number refuses passes all three tests
 pub block-fine : (b : List ℕ) (k : ℕ) (fine : Bool) (n : ℕ) → 0 < n → blockNumber b k fine n ≡ 0
@@ -44,21 +35,21 @@ block-fine b k fine n pos = go (checkFine b) (placeFine b k) fine
     go true false z h = absurd (omega arith)
     go false y z h = absurd (omega arith)
 
--- an entry of a kind that there is asks something
-pub meant-some : (e : List ℕ) → kindFine e ≡ true → meant e ≡ Nothing → ⊥
+-- an entry of a kind that there is asks something of the process that its byte names
+pub meant-process : (e : List ℕ) → kindFine e ≡ true → meant e .process .0 ≡ process e
 unfolding meant
-meant-some e fine =
+meant-process e fine =
     let ends = and-eq-true-iff (leb 1 (kind e)) (leb (kind e) 4) .0 fine in
     go (kind e) (leb-true 1 (kind e) (ends .0)) (leb-true (kind e) 4 (ends .1))
   where
     go : (k : ℕ) → 1 ≤ k → k ≤ 4
-        → cond (eqb k 1) (Load (process e)) (cond (eqb k 2) (Store (process e) (value e)) (cond (eqb k 3) (Check (process e)) (cond (eqb k 4) (Step (process e)) Nothing))) ≡ Nothing → ⊥
-    go zero l m h = omega arith
-    go (suc zero) l m h = let z : _≡_ {A = ℕ} 0 1 = cc in omega arith
-    go (suc (suc zero)) l m h = let z : _≡_ {A = ℕ} 0 1 = cc in omega arith
-    go (suc (suc (suc zero))) l m h = let z : _≡_ {A = ℕ} 0 1 = cc in omega arith
-    go (suc (suc (suc (suc zero)))) l m h = let z : _≡_ {A = ℕ} 0 1 = cc in omega arith
-    go (suc (suc (suc (suc (suc k))))) l m h = omega arith
+        → cond (eqb k 1) (entryBy (process e) (Ask Load)) (cond (eqb k 2) (entryBy (process e) (Ask (Store (value e)))) (cond (eqb k 3) (entryBy (process e) (Ask Check)) (cond (eqb k 4) (entryBy (process e) Step) noEntry))) .process .0 ≡ process e
+    go zero l m = absurd (omega arith)
+    go (suc zero) l m = refl
+    go (suc (suc zero)) l m = refl
+    go (suc (suc (suc zero))) l m = refl
+    go (suc (suc (suc (suc zero)))) l m = refl
+    go (suc (suc (suc (suc (suc k))))) l m = absurd (omega arith)
 
 -- an accepted later block: its count, and each of its entries
 module _ (b : List ℕ) (k : ℕ) (ok : laterNumber b k ≡ 0) where
@@ -81,10 +72,8 @@ module _ (b : List ℕ) (k : ℕ) (ok : laterNumber b k ≡ 0) where
       (and-eq-true-iff (entriesFine b (count b)) (restClear b) .0 (and-eq-true-iff (leb (count b) 42) (entriesFine b (count b) && restClear b) .0 later-fine .1) .0)
       j l
 
-  pub later-some : (j : ℕ) → j < count b → meant (entryBytes b j) ≡ Nothing → ⊥
-  later-some j l =
-      let e = entryBytes b j in
-      meant-some e (and-eq-true-iff (kindFine e) (entryClear e) .0 (later-entry j l) .0)
+  pub later-kind : (j : ℕ) → j < count b → kindFine (entryBytes b j) ≡ true
+  later-kind j l = and-eq-true-iff (kindFine (entryBytes b j)) (entryClear (entryBytes b j)) .0 (later-entry j l) .0
 
 -- of an accepted block the part that is handed back is the one that its count names, and of a refused one there is none
 pub part-accepted : (b : List ℕ) (k : ℕ) → length b ≡ 512 → laterNumber b k ≡ 0 → acceptedPart b k ≡ usedPart b
@@ -155,25 +144,25 @@ turn-accepted f k (suc n) rest h (suc j) l =
 -- an accepted file: its length, block 0, each later block, and what is answered
 module _ (f : List ℕ) (ok : isAccepted (reading f) ≡ true) where
   opened : (lengthFine (length f) ≡ true)
-      × ((headNumber (blockAt f 0) (blocksAfter f) ≡ 0) × (isAccepted (inTurn f 1 (blocksAfter f) (said f)) ≡ true))
+      × ((firstNumber (blockAt f 0) (blocksAfter f) ≡ 0) × (isAccepted (inTurn f 1 (blocksAfter f) (acceptedAs f)) ≡ true))
   unfolding reading
   opened = go (lengthFine (length f)) ok
     where
-      go : (t : Bool) → isAccepted (cond (not t) (Refused 1 0) (found (headNumber (blockAt f 0) (blocksAfter f)) 0 (inTurn f 1 (blocksAfter f) (said f)))) ≡ true
-          → (t ≡ true) × ((headNumber (blockAt f 0) (blocksAfter f) ≡ 0) × (isAccepted (inTurn f 1 (blocksAfter f) (said f)) ≡ true))
-      go true h = (refl, found-accepted (headNumber (blockAt f 0) (blocksAfter f)) 0 (inTurn f 1 (blocksAfter f) (said f)) h)
+      go : (t : Bool) → isAccepted (cond (not t) (Refused 1 0) (found (firstNumber (blockAt f 0) (blocksAfter f)) 0 (inTurn f 1 (blocksAfter f) (acceptedAs f)))) ≡ true
+          → (t ≡ true) × ((firstNumber (blockAt f 0) (blocksAfter f) ≡ 0) × (isAccepted (inTurn f 1 (blocksAfter f) (acceptedAs f)) ≡ true))
+      go true h = (refl, found-accepted (firstNumber (blockAt f 0) (blocksAfter f)) 0 (inTurn f 1 (blocksAfter f) (acceptedAs f)) h)
       go false h = absurd (false≢true h)
 
   pub accepted-length : (length f ≡ 512 * (blocksAfter f + 1)) × (blocksAfter f < 128)
   accepted-length = length-blocks (length f) (opened .0)
 
-  pub accepted-head : headNumber (blockAt f 0) (blocksAfter f) ≡ 0
-  accepted-head = opened .1 .0
+  pub accepted-first : firstNumber (blockAt f 0) (blocksAfter f) ≡ 0
+  accepted-first = opened .1 .0
 
   pub accepted-block : (k : ℕ) → 0 < k → k ≤ blocksAfter f → laterNumber (blockAt f k) k ≡ 0
   accepted-block k l h =
       let e : 1 + (k - 1) ≡ k = omega arith in
-      rw e at (turn-accepted f 1 (blocksAfter f) (said f) (opened .1 .1) (k - 1) (omega arith))
+      rw e at (turn-accepted f 1 (blocksAfter f) (acceptedAs f) (opened .1 .1) (k - 1) (omega arith))
 
   pub accepted-whole : (k : ℕ) → k ≤ blocksAfter f → length (blockAt f k) ≡ 512
   accepted-whole k h = part-length f (512 * k) 512 (omega (arith, accepted-length .0))
@@ -195,23 +184,24 @@ module _ (f : List ℕ) (ok : isAccepted (reading f) ≡ true) where
 
   -- entry j of block k + 1 is an entry of the file, with its number and its bytes
   pub accepted-entry : (k j : ℕ) → k < blocksAfter f → j < count (blockAt f (k + 1))
-      → getD (fileEntries f) (length (entriesTo f k) + j) Nothing ≡ meant (take 12 (drop (512 * (k + 1) + (4 + 12 * j)) f))
+      → getD (fileEntries f) (length (entriesTo f k) + j) noEntry ≡ meant (take 12 (drop (512 * (k + 1) + (4 + 12 * j)) f))
   accepted-entry k j l h =
       let few : count (blockAt f (k + 1)) ≤ 42 = accepted-count (k + 1) (omega arith) (omega arith) in
       entry-stands f k (blocksAfter f) j l h
       ∙ block-entry (blockAt f (k + 1)) j h
       ∙ ap meant (entry-bytes f (k + 1) j (omega arith))
 
-  -- and it asks something
-  pub accepted-some : (k j : ℕ) → k < blocksAfter f → j < count (blockAt f (k + 1))
-      → getD (fileEntries f) (length (entriesTo f k) + j) Nothing ≡ Nothing → ⊥
-  accepted-some k j l h none =
-      later-some (blockAt f (k + 1)) (k + 1) (accepted-block (k + 1) (omega arith) (omega arith)) j h
-      (sym (entry-stands f k (blocksAfter f) j l h ∙ block-entry (blockAt f (k + 1)) j h) ∙ none)
+  -- and it asks something of the process that its byte names
+  pub accepted-process : (k j : ℕ) → k < blocksAfter f → j < count (blockAt f (k + 1))
+      → getD (fileEntries f) (length (entriesTo f k) + j) noEntry .process .0 ≡ process (entryBytes (blockAt f (k + 1)) j)
+  accepted-process k j l h =
+      rw (entry-stands f k (blocksAfter f) j l h, block-entry (blockAt f (k + 1)) j h)
+      (meant-process (entryBytes (blockAt f (k + 1)) j)
+      (later-kind (blockAt f (k + 1)) (k + 1) (accepted-block (k + 1) (omega arith) (omega arith)) j h))
 
   -- what is read at place j of the part that the block's count names
   pub accepted-read : (k j : ℕ) → k < blocksAfter f → j < count (blockAt f (k + 1))
-      → entryAt (usedPart (blockAt f (k + 1))) j ≡ getD (fileEntries f) (length (entriesTo f k) + j) Nothing
+      → entryAt (usedPart (blockAt f (k + 1))) j ≡ getD (fileEntries f) (length (entriesTo f k) + j) noEntry
   accepted-read k j l h =
       used-entry (blockAt f (k + 1)) (accepted-room (k + 1) (omega arith) (omega arith)) j
       ∙ sym (entry-stands f k (blocksAfter f) j l h)
@@ -233,30 +223,30 @@ module _ (f : List ℕ) (ok : isAccepted (reading f) ≡ true) where
       )
 
 -- a file whose length, block 0 and later blocks give no number is accepted, and an accepted file is answered with what it says
-pub accepted-if : (f : List ℕ) → lengthFine (length f) ≡ true → headNumber (blockAt f 0) (blocksAfter f) ≡ 0
-    → ((k : ℕ) → 0 < k → k ≤ blocksAfter f → laterNumber (blockAt f k) k ≡ 0) → reading f ≡ said f
+pub accepted-if : (f : List ℕ) → lengthFine (length f) ≡ true → firstNumber (blockAt f 0) (blocksAfter f) ≡ 0
+    → ((k : ℕ) → 0 < k → k ≤ blocksAfter f → laterNumber (blockAt f k) k ≡ 0) → reading f ≡ acceptedAs f
 unfolding reading
-accepted-if f l h each = rw (l, h) (turn-passed f 1 (blocksAfter f) (said f) (λ j m. each (1 + j) (omega arith) (omega arith)))
+accepted-if f l h each = rw (l, h) (turn-passed f 1 (blocksAfter f) (acceptedAs f) (λ j m. each (1 + j) (omega arith) (omega arith)))
 
-pub accepted-said : (f : List ℕ) → isAccepted (reading f) ≡ true → reading f ≡ said f
-accepted-said f ok = accepted-if f (opened f ok .0) (accepted-head f ok) (accepted-block f ok)
+pub accepted-as : (f : List ℕ) → isAccepted (reading f) ≡ true → reading f ≡ acceptedAs f
+accepted-as f ok = accepted-if f (opened f ok .0) (accepted-first f ok) (accepted-block f ok)
 
 -- what the answer for an accepted file tells of it
 pub accepted-answer : (f : List ℕ) {n s v c : ℕ} → reading f ≡ Accepted n s v c
     → (isAccepted (reading f) ≡ true)
-    × ((n ≡ headN (blockAt f 0)) × ((s ≡ headS (blockAt f 0)) × ((v ≡ headV (blockAt f 0)) × (c ≡ length (fileEntries f)))))
+    × ((n ≡ startN (blockAt f 0)) × ((s ≡ startS (blockAt f 0)) × ((v ≡ startV (blockAt f 0)) × (c ≡ length (fileEntries f)))))
 accepted-answer f {n} {s} {v} {c} e =
     let ok : isAccepted (reading f) ≡ true = ap isAccepted e in
-    let same : Accepted n s v c ≡ said f = sym e ∙ accepted-said f ok in
+    let same : Accepted n s v c ≡ acceptedAs f = sym e ∙ accepted-as f ok in
     (ok, (cc, (cc, (cc, cc))))
 
 -- block 0 of an accepted file: N and S are in their ranges, and it tells how many blocks come after it
 pub accepted-start : (f : List ℕ) → isAccepted (reading f) ≡ true
-    → (rangeFine (headN (blockAt f 0)) (headS (blockAt f 0)) ≡ true) × (headBlocks (blockAt f 0) ≡ blocksAfter f)
-unfolding headNumber
+    → (inRange (startN (blockAt f 0)) (record { 0 = startS (blockAt f 0) }) ≡ true) × (laterBlocks (blockAt f 0) ≡ blocksAfter f)
+unfolding firstNumber
 accepted-start f ok =
     let b = blockAt f 0 in
-    let fine = block-fine b 0 (headFine b (blocksAfter f)) 4 (omega arith) (accepted-head f ok) .1 .1 in
-    let parts = and-eq-true-iff (rangeFine (headN b) (headS b)) (eqb (headBlocks b) (blocksAfter f) && headClear b) .0 fine in
-    let whole = and-eq-true-iff (eqb (headBlocks b) (blocksAfter f)) (headClear b) .0 (parts .1) in
-    (parts .0, eqb-true (headBlocks b) (blocksAfter f) (whole .0))
+    let fine = block-fine b 0 (firstFine b (blocksAfter f)) 4 (omega arith) (accepted-first f ok) .1 .1 in
+    let parts = and-eq-true-iff (inRange (startN b) (record { 0 = startS b })) (eqb (laterBlocks b) (blocksAfter f) && firstClear b) .0 fine in
+    let whole = and-eq-true-iff (eqb (laterBlocks b) (blocksAfter f)) (firstClear b) .0 (parts .1) in
+    (parts .0, eqb-true (laterBlocks b) (blocksAfter f) (whole .0))

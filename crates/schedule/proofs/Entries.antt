@@ -10,28 +10,12 @@ use native.Mathlib.Numerals.{add-one}
 use native.Mathlib.Omega.{arith}
 use borrow.Author.Tests.{le-leb, lt-leb, leb-true}
 use lib.ListN.{length, getD, take, drop, length-append, List·getD-append, List·getD-eq-default}
-use lib.Seq.{take-take, drop-drop, getD-append-add, getD-at}
+use lib.Seq.{take-take, drop-drop, getD-append-add}
 use lib.Dec.{eqb, leb}
-use Rattle.schedule.specs.Bytes.{listBelow}
-use Rattle.schedule.specs.Later.{count, entryBytes, meant, laterNumber, usedPart, acceptedPart, entryAt, blockEntries}
+use Rattle.numbers.proofs.Below.{listed-length, listed-at}
+use Rattle.schedule.specs.Later.{count, entryBytes, noEntry, meant, laterNumber, usedPart, acceptedPart, entryAt, blockEntries}
 use Rattle.schedule.specs.File.{blockAt, entriesTo}
-use Rattle.schedule.specs.declared.Entry.the-variants.{Nothing}
 use Rattle.schedule.proofs.Laws.{part-length}
-
--- a list of f at the numbers below n: how long it is, and what stands at each place
-module _ {A : Type 0} where
-  listed-length : (n : ℕ) (f : ℕ → A) → length (listBelow n f) ≡ n
-  listed-length zero f = refl
-  listed-length (suc n) f = rw (length-append, listed-length n f) (omega arith)
-
-  listed-at : (n : ℕ) (f : ℕ → A) (d : A) (j : ℕ) → j < n → getD (listBelow n f) j d ≡ f j
-  listed-at (suc n) f d j h = go (λ l. listed-at n f d j l) (decLt j n)
-    where
-      go : (j < n → getD (listBelow n f) j d ≡ f j) → Dec (j < n) → getD (listBelow n f ++ (f n ∷ [])) j d ≡ f j
-      go below (yes l) = List·getD-append (listBelow n f) (f n ∷ []) d j (rw (listed-length n f) l) ∙ below l
-      go below (no l) =
-          let e : j ≡ n = omega (arith, l) in
-          rw e (getD-at (listBelow n f) (f n) [] d n (listed-length n f))
 
 -- a part of a part is a part of the whole
 pub part-of-part : (l : List ℕ) (m n k : ℕ) → m + n ≤ k → take n (drop m (take k l)) ≡ take n (drop m l)
@@ -45,9 +29,9 @@ pub block-entries : (b : List ℕ) → length (blockEntries b) ≡ count b
 unfolding blockEntries
 block-entries b = listed-length (count b) (λ j. meant (entryBytes b j))
 
-pub block-entry : (b : List ℕ) (j : ℕ) → j < count b → getD (blockEntries b) j Nothing ≡ meant (entryBytes b j)
+pub block-entry : (b : List ℕ) (j : ℕ) → j < count b → getD (blockEntries b) j noEntry ≡ meant (entryBytes b j)
 unfolding blockEntries
-block-entry b j h = listed-at (count b) (λ j. meant (entryBytes b j)) Nothing j h
+block-entry b j h = listed-at (count b) (λ j. meant (entryBytes b j)) noEntry j h
 
 -- the part that the count names, and the entries that are read out of it
 module _ (b : List ℕ) (room : 4 + 12 * count b ≤ length b) where
@@ -58,18 +42,18 @@ module _ (b : List ℕ) (room : 4 + 12 * count b ≤ length b) where
   pub used-length : length (usedPart b) ≡ 12 * count b
   used-length = rw used-is (part-length b 4 (12 * count b) room)
 
-  pub used-entry : (j : ℕ) → entryAt (usedPart b) j ≡ getD (blockEntries b) j Nothing
+  pub used-entry : (j : ℕ) → entryAt (usedPart b) j ≡ getD (blockEntries b) j noEntry
   unfolding entryAt
   used-entry j = go (decLt j (count b))
     where
-      go : Dec (j < count b) → entryAt (usedPart b) j ≡ getD (blockEntries b) j Nothing
+      go : Dec (j < count b) → entryAt (usedPart b) j ≡ getD (blockEntries b) j noEntry
       go (yes l) =
           rw (used-length, le-leb (12 * j + 12) (12 * count b) (omega arith), used-is, block-entry b j l)
           (ap meant (part-of-part (drop 4 b) (12 * j) 12 (12 * count b) (omega arith) ∙ ap (take 12) (drop-drop (12 * j) 4 b)))
       go (no l) =
           let past : count b ≤ j = omega (arith, l) in
           rw (used-length, lt-leb (12 * j + 12) (12 * count b) (omega arith))
-          (sym (List·getD-eq-default (blockEntries b) Nothing (rw (block-entries b) past)))
+          (sym (List·getD-eq-default (blockEntries b) noEntry (rw (block-entries b) past)))
 
 -- the entries of no block, and of one block more
 pub entries-none : (f : List ℕ) → entriesTo f 0 ≡ []
@@ -92,12 +76,12 @@ module _ (f : List ℕ) (k : ℕ) where
       rw (e, entries-more f (k + 1 + n)) (omega (arith, within n j h))
 
   stands : (n j : ℕ) → j < count (blockAt f (k + 1))
-      → getD (entriesTo f (k + 1 + n)) (length (entriesTo f k) + j) Nothing ≡ getD (blockEntries (blockAt f (k + 1))) j Nothing
-  stands zero j h = rw (add-zero (k + 1), entries-next f k) (getD-append-add (entriesTo f k) (blockEntries (blockAt f (k + 1))) j Nothing)
+      → getD (entriesTo f (k + 1 + n)) (length (entriesTo f k) + j) noEntry ≡ getD (blockEntries (blockAt f (k + 1))) j noEntry
+  stands zero j h = rw (add-zero (k + 1), entries-next f k) (getD-append-add (entriesTo f k) (blockEntries (blockAt f (k + 1))) j noEntry)
   stands (suc n) j h =
       let e : k + 1 + suc n ≡ k + 1 + n + 1 = omega arith in
       rw (e, entries-next f (k + 1 + n))
-      (List·getD-append (entriesTo f (k + 1 + n)) (blockEntries (blockAt f (k + 1 + n + 1))) Nothing (length (entriesTo f k) + j) (within n j h)
+      (List·getD-append (entriesTo f (k + 1 + n)) (blockEntries (blockAt f (k + 1 + n + 1))) noEntry (length (entriesTo f k) + j) (within n j h)
       ∙ stands n j h)
 
   pub entry-within : (n j : ℕ) → k < n → j < count (blockAt f (k + 1)) → length (entriesTo f k) + j < length (entriesTo f n)
@@ -106,7 +90,7 @@ module _ (f : List ℕ) (k : ℕ) where
       rw e at (within (n - (k + 1)) j h)
 
   pub entry-stands : (n j : ℕ) → k < n → j < count (blockAt f (k + 1))
-      → getD (entriesTo f n) (length (entriesTo f k) + j) Nothing ≡ getD (blockEntries (blockAt f (k + 1))) j Nothing
+      → getD (entriesTo f n) (length (entriesTo f k) + j) noEntry ≡ getD (blockEntries (blockAt f (k + 1))) j noEntry
   entry-stands n j l h =
       let e : k + 1 + (n - (k + 1)) ≡ n = omega arith in
       rw e at (stands (n - (k + 1)) j h)

@@ -1,17 +1,18 @@
 -- Laws of the definitions, for the proofs beside this file and for the floors above.
 -- Assumes nothing.
-use mathlib.Core.Path.{_≡_, refl, sym}
+use mathlib.Core.Path.{_≡_, refl}
 use mathlib.Core.Bool.{Bool, true, false, cond, not, _&&_}
 use mathlib.Core.List.{List}
-use Prim.Native.Nat.{ℕ, zero, suc, _+_, _*_, _^_, _≤_, _<_}
-use native.Mathlib.Nat.{zero-add, add-zero, add-suc, add-assoc, mul-zero, mul-suc, mul-add, mul-assoc, mul-le-mul, one-le-pow}
-use lib.Pow.{pow-add}
+use Prim.Native.Nat.{ℕ, zero, suc, _+_, _*_, _≤_, _<_}
+use native.Mathlib.Nat.{zero-add, add-zero, add-suc, mul-zero, mul-suc, mul-le-mul}
 use native.Mathlib.Omega.{arith}
 use borrow.Author.Tests.{ne-eqb}
 use lib.ListN.{length, getD, take, drop, length-drop, List·getD-eq-default}
 use lib.Seq.{length-take-le}
 use lib.Dec.{eqb}
-use Rattle.schedule.specs.Bytes.{numberOf, zerosOf}
+use Rattle.numbers.specs.Bytes.{numberAt}
+use Rattle.numbers.proofs.Below.{all-front}
+use Rattle.schedule.specs.Bytes.{zerosOf}
 use Rattle.schedule.specs.Check.{weighed}
 
 -- a sum is zero where both its parts are
@@ -24,18 +25,20 @@ eqb-scaled : (k x : ℕ) → 0 < k → eqb (k * x) 0 ≡ eqb x 0
 eqb-scaled k zero h = rw (mul-zero k)
 eqb-scaled k (suc x) h = rw (ne-eqb (k * suc x) 0 (λ e. omega (arith, mul-suc k x)), ne-eqb (suc x) 0 (λ e. omega arith))
 
--- a number of n + m bytes is made of one of n and one of m
-pub number-split : (b : List ℕ) (p n m : ℕ) → numberOf b p (n + m) ≡ numberOf b p n + 256 ^ n * numberOf b (p + n) m
-unfolding numberOf
-number-split b p n zero = rw (add-zero n, mul-zero (256 ^ n)) (sym (add-zero _))
-number-split b p n (suc m) =
-    rw (add-suc n m, number-split b p n m, pow-add 256 n m, mul-add, mul-assoc, add-assoc p n m, add-assoc (numberOf b p n))
-
 -- a number is zero where its bytes are
-pub number-zero : (b : List ℕ) (p n : ℕ) → eqb (numberOf b p n) 0 ≡ zerosOf b p n
-unfolding numberOf zerosOf
+pub number-zero : (b : List ℕ) (p n : ℕ) → eqb (numberAt b p n) 0 ≡ zerosOf b p n
+unfolding zerosOf
 number-zero b p zero = refl
-number-zero b p (suc n) = rw (eqb-sum, eqb-scaled (256 ^ n) (getD b (p + n) 0) (one-le-pow n 256 (omega arith)), number-zero b p n)
+number-zero b p (suc n) =
+    let place : (i : ℕ) → p + suc i ≡ p + 1 + i = λ i. omega arith in
+    rw (
+      eqb-sum,
+      eqb-scaled 256 (numberAt b (p + 1) n) (omega arith),
+      number-zero b (p + 1) n,
+      all-front n (λ i. eqb (getD b (p + i) 0) 0),
+      add-zero p,
+    )
+    (simp place)
 
 -- a part that lies within a list has as many bytes as were asked for
 pub part-length : (l : List ℕ) (at n : ℕ) → at + n ≤ length l → length (take n (drop at l)) ≡ n

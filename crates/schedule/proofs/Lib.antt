@@ -1,3 +1,4 @@
 pub mod Laws
 pub mod Entries
 pub mod Accepted
+pub mod WorkedFile

@@ -4,7 +4,8 @@ use mathlib.Core.Bool.{Bool, cond, not}
 use mathlib.Core.List.{List}
 use lib.ListN.{getD}
 use lib.Dec.{eqb}
-use Rattle.schedule.specs.Bytes.{sumBelow, number}
+use Rattle.numbers.specs.Below.{sumBelow}
+use Rattle.schedule.specs.Bytes.{number}
 
 -- "the sum over places i from 0 to 509 of (i + 1) times byte i"
 abbrev pub weighed : List ℕ → ℕ → ℕ

@@ -2,12 +2,11 @@
 use Prim.Native.Nat.{ℕ, zero, suc, _+_, _-_, _*_, _/_, _%_}
 use mathlib.Core.Bool.{Bool, true, false, cond, not, _&&_}
 use mathlib.Core.List.{List, [], _++_}
-use lib.ListN.{getD, length, take, drop}
+use lib.ListN.{length, take, drop}
 use lib.Dec.{eqb, leb}
-use Rattle.schedule.specs.Block0.{headN, headS, headV, headNumber}
+use Rattle.step.specs.declared.Entry.{Entry}
+use Rattle.schedule.specs.Block0.{startN, startS, startV, firstNumber}
 use Rattle.schedule.specs.Later.{laterNumber, blockEntries}
-use Rattle.schedule.specs.declared.Entry.{Entry}
-use Rattle.schedule.specs.declared.Entry.the-variants.{Nothing}
 use Rattle.schedule.specs.declared.Reading.{Reading}
 use Rattle.schedule.specs.declared.Reading.the-variants.{Refused, Accepted}
 
@@ -41,21 +40,17 @@ inTurn f k zero rest = rest
 inTurn f k (suc n) rest = found (laterNumber (blockAt f k) k) k (inTurn f (k + 1) n rest)
 
 -- what an accepted file says
-abbrev pub said : List ℕ → Reading
-said f = Accepted (headN (blockAt f 0)) (headS (blockAt f 0)) (headV (blockAt f 0)) (length (fileEntries f))
+abbrev pub acceptedAs : List ℕ → Reading
+acceptedAs f = Accepted (startN (blockAt f 0)) (startS (blockAt f 0)) (startV (blockAt f 0)) (length (fileEntries f))
 
 -- "Order for a file: 1; block 0 by 2, 3, 4; each later block in turn by 2, 3, 5; .. The first found is given."
 unfoldable pub reading : List ℕ → Reading
 reading f =
     cond (not (lengthFine (length f))) (Refused 1 0)
-    (found (headNumber (blockAt f 0) (blocksAfter f)) 0
-    (inTurn f 1 (blocksAfter f) (said f)))
+    (found (firstNumber (blockAt f 0) (blocksAfter f)) 0
+    (inTurn f 1 (blocksAfter f) (acceptedAs f)))
 
 -- whether a reading is of an accepted file
 abbrev pub isAccepted : Reading → Bool
 isAccepted (Refused n k) = false
 isAccepted (Accepted n s v c) = true
-
--- entry i of an accepted file
-unfoldable pub entryOf : List ℕ → ℕ → Entry
-entryOf f i = cond (isAccepted (reading f)) (getD (fileEntries f) i Nothing) Nothing

@@ -4,10 +4,13 @@ use mathlib.Core.Bool.{Bool, cond, _&&_, _||_}
 use mathlib.Core.List.{List, []}
 use lib.ListN.{getD, length, take, drop}
 use lib.Dec.{eqb, leb}
-use Rattle.schedule.specs.Bytes.{allBelow, listBelow, number, zeros}
+use Rattle.numbers.specs.Below.{allBelow, listBelow}
+use Rattle.step.specs.declared.Entry.{Entry}
+use Rattle.step.specs.declared.Kind.{Kind}
+use Rattle.step.specs.declared.Kind.the-variants.{Ask, Step}
+use Rattle.step.specs.declared.Request.the-variants.{Load, Store, Check}
+use Rattle.schedule.specs.Bytes.{number, zeros}
 use Rattle.schedule.specs.Check.{blockNumber}
-use Rattle.schedule.specs.declared.Entry.{Entry}
-use Rattle.schedule.specs.declared.Entry.the-variants.{Load, Store, Check, Step, Nothing}
 use Rattle.schedule.specs.declared.Block.{Block}
 use Rattle.schedule.specs.declared.Block.the-variants.{BlockRefused, Entries}
 
@@ -32,13 +35,21 @@ entryClear e = zeros 2 3 e && (eqb (kind e) 2 || zeros 4 11 e)
 abbrev pub entryFine : List ℕ → Bool
 entryFine e = kindFine e && entryClear e
 
+-- an entry of process p that asks this of it
+abbrev pub entryBy : ℕ → Kind → Entry
+entryBy p asked = record { process = record { 0 = p }; kind = asked }
+
+-- Where no entry stands: a step of process 255, which no machine has, so that every run turns it away with 11.
+abbrev pub noEntry : Entry
+noEntry = entryBy 255 Step
+
 -- what the twelve bytes of an entry ask. "A process number of N or more doesn't refuse the file": any process is taken.
 unfoldable pub meant : List ℕ → Entry
 meant e =
-    cond (eqb (kind e) 1) (Load (process e))
-    (cond (eqb (kind e) 2) (Store (process e) (value e))
-    (cond (eqb (kind e) 3) (Check (process e))
-    (cond (eqb (kind e) 4) (Step (process e)) Nothing)))
+    cond (eqb (kind e) 1) (entryBy (process e) (Ask Load))
+    (cond (eqb (kind e) 2) (entryBy (process e) (Ask (Store (value e))))
+    (cond (eqb (kind e) 3) (entryBy (process e) (Ask Check))
+    (cond (eqb (kind e) 4) (entryBy (process e) Step) noEntry)))
 
 -- "byte 2 is the count c of entries, 0 to 42; .. entries of 12 bytes from byte 4"
 abbrev pub count : List ℕ → ℕ
@@ -81,7 +92,7 @@ acceptedPart b k = cond (eqb (length b) 512) (cond (eqb (laterNumber b k) 0) (us
 
 -- entry j of such a part: twelve bytes from place 12j on
 unfoldable pub entryAt : List ℕ → ℕ → Entry
-entryAt p j = cond (leb (12 * j + 12) (length p)) (meant (take 12 (drop (12 * j) p))) Nothing
+entryAt p j = cond (leb (12 * j + 12) (length p)) (meant (take 12 (drop (12 * j) p))) noEntry
 
 -- the entries of a block, in order
 unfoldable pub blockEntries : List ℕ → List Entry

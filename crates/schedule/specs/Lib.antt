@@ -3,4 +3,4 @@ pub mod Check
 pub mod Block0
 pub mod Later
 pub mod File
-pub mod Run
+pub mod WorkedFile

@@ -1,34 +1,15 @@
-// Bytes read as numbers, low byte first, and the test that a run of bytes is zero.
+// Bytes read as numbers, low byte first, and the test that bytes are zero.
 ghost use mathlib.Core.Path.{_≡_};
 ghost use Prim.Native.Nat.{_+_, _≤_, _<_};
-ghost use mathlib.Core.Bool.{_&&_, _||_};
 ghost use lib.ListN.{length};
-ghost use Rattle.schedule.specs.Bytes.{numberOf, zerosOf};
-
-// A byte at a width in which sums of bytes fit.
-pub(crate) fn wide(x: u8) -> u32
-    ensures { λ r. ⌜ (r ≡ x) × (r < 256) ⌝ }
-{
-    x as u32
-}
-
-// Tests are joined by these two, and not by branches, so that what makes many tests has one way through.
-pub(crate) fn both(a: bool, b: bool) -> bool
-    ensures { λ r. ⌜ r ≡ (a && b) ⌝ }
-{
-    if a { b } else { false }
-}
-
-pub(crate) fn either(a: bool, b: bool) -> bool
-    ensures { λ r. ⌜ r ≡ (a || b) ⌝ }
-{
-    if a { true } else { b }
-}
+ghost use Rattle.numbers.specs.Bytes.{numberAt};
+ghost use Rattle.schedule.specs.Bytes.{zerosOf};
+use numbers::wide;
 
 // The number of the two bytes from place `at` on. Each further width is made of two halves.
 pub(crate) fn two(b: &[u8], at: usize) -> u32
     requires { ⌜ at + 2 ≤ length (now b) ⌝ }
-    ensures { λ r. ⌜ (r ≡ numberOf (now (b .entry)) at 2) × (r < 65536) ⌝ }
+    ensures { λ r. ⌜ (r ≡ numberAt (now (b .entry)) at 2) × (r < 65536) ⌝ }
 {
     let next = at + 1;
     let low = wide(b[at]);
@@ -38,7 +19,7 @@ pub(crate) fn two(b: &[u8], at: usize) -> u32
 
 pub(crate) fn four(b: &[u8], at: usize) -> u32
     requires { ⌜ at + 4 ≤ length (now b) ⌝ }
-    ensures { λ r. ⌜ (r ≡ numberOf (now (b .entry)) at 4) × (r < 4294967296) ⌝ }
+    ensures { λ r. ⌜ (r ≡ numberAt (now (b .entry)) at 4) × (r < 4294967296) ⌝ }
 {
     let next = at + 2;
     let low = two(b, at);
@@ -48,7 +29,7 @@ pub(crate) fn four(b: &[u8], at: usize) -> u32
 
 pub(crate) fn eight(b: &[u8], at: usize) -> u64
     requires { ⌜ at + 8 ≤ length (now b) ⌝ }
-    ensures { λ r. ⌜ r ≡ numberOf (now (b .entry)) at 8 ⌝ }
+    ensures { λ r. ⌜ r ≡ numberAt (now (b .entry)) at 8 ⌝ }
 {
     let next = at + 4;
     let low = four(b, at) as u64;

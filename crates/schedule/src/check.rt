@@ -1,6 +1,6 @@
 // What every block has: its check and its place.
 use crate::bytes::two;
-use crate::bytes::wide;
+use numbers::wide;
 ghost use mathlib.Core.Path.{_≡_};
 ghost use mathlib.Core.Bool.{cond, not};
 ghost use Prim.Native.Nat.{_≤_};

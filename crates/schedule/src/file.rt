@@ -1,20 +1,15 @@
 // The file as a whole.
-use crate::Entry;
 use crate::Reading;
-use crate::block0::head_number;
-use crate::bytes::both;
+use crate::block0::first_number;
 use crate::bytes::eight;
 use crate::bytes::four;
-use crate::bytes::wide;
-use crate::later::entry_at;
 use crate::later::later_number;
-use crate::later::used_entries;
+use numbers::both;
+use numbers::wide;
 ghost use mathlib.Core.Path.{_≡_};
-ghost use mathlib.Core.Bool.{true};
 ghost use Prim.Native.Nat.{_+_, _*_, _<_};
-ghost use lib.ListN.{length, getD};
-ghost use Rattle.schedule.specs.File.{lengthFine, blockAt, entriesTo, fileEntries, inTurn, reading};
-ghost use Rattle.schedule.specs.File.{isAccepted, entryOf};
+ghost use lib.ListN.{length};
+ghost use Rattle.schedule.specs.File.{lengthFine, blockAt, entriesTo, inTurn, reading};
 
 // Block k of a file, as that part of it. Where the file ends earlier, the part ends with it.
 pub fn block_of(file: &[u8], k: usize) -> &[u8]
@@ -82,7 +77,7 @@ pub fn read_file(file: &[u8]) -> Reading
     if fine {
         let after = len / 512 - 1;
         let b = block_of(file, 0);
-        let number = head_number(b, after);
+        let number = first_number(b, after);
         if number != 0 {
             return Reading::Refused {
                 number: number,
@@ -98,46 +93,5 @@ pub fn read_file(file: &[u8]) -> Reading
             number: 1,
             block: 0,
         }
-    }
-}
-
-// Entry i of an accepted file, which is looked for block by block.
-fn find_entry(file: &[u8], i: usize) -> Entry
-    requires { ⌜ isAccepted (reading (now file)) ≡ true ⌝ }
-    ensures { λ r. ⌜ r ≡ getD (fileEntries (now (file .entry))) i Entry.Nothing ⌝ }
-{
-    let after = file.len() / 512 - 1;
-    let mut done = 0;
-    let mut left = i;
-    while done < after {
-        let k = done + 1;
-        let b = block_of(file, k);
-        let c = wide(b[2]) as usize;
-        if left < c {
-            let part = used_entries(b);
-            return entry_at(part, left);
-        }
-        left = left - c;
-        done = k;
-    }
-    Entry::Nothing
-}
-
-// Entry i of a file: nothing where the file is refused, or has no such entry.
-pub fn entry_of(file: &[u8], i: usize) -> Entry
-    ensures { λ r. ⌜ r ≡ entryOf (now (file .entry)) i ⌝ }
-{
-    let answer = read_file(file);
-    match answer {
-        Reading::Refused {
-            number: _,
-            block: _,
-        } => Entry::Nothing,
-        Reading::Accepted {
-            n: _,
-            s: _,
-            v: _,
-            entries: _,
-        } => find_entry(file, i),
     }
 }

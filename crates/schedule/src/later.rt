@@ -1,18 +1,21 @@
 // The blocks after block 0, and the entries in them.
 use crate::Block;
-use crate::Entry;
-use crate::bytes::both;
 use crate::bytes::clear;
 use crate::bytes::eight;
-use crate::bytes::either;
 use crate::bytes::two;
-use crate::bytes::wide;
 use crate::check::number_of;
+use numbers::Process;
+use numbers::both;
+use numbers::either;
+use numbers::wide;
+use step::Entry;
+use step::Kind;
+use step::Request;
 ghost use mathlib.Core.Path.{_≡_};
-ghost use Prim.Native.Nat.{_≤_};
+ghost use Prim.Native.Nat.{_≤_, _<_};
 ghost use lib.ListN.{length};
 ghost use Rattle.schedule.specs.Later.{entryFine, entriesFine, laterFine, laterNumber, laterOf};
-ghost use Rattle.schedule.specs.Later.{meant, entryAt, usedPart, acceptedPart};
+ghost use Rattle.schedule.specs.Later.{noEntry, meant, entryAt, usedPart, acceptedPart};
 
 // Whether an entry has a kind that there is, and no stray byte. The bytes that should be zero are read as one number.
 fn entry_fine(e: &[u8]) -> bool
@@ -123,32 +126,64 @@ pub fn entries_of(b: &[u8], k: usize) -> &[u8]
     used_entries(b)
 }
 
+// The answer where no entry stands.
+fn no_entry() -> Entry
+    ensures { λ r. ⌜ r ≡ noEntry ⌝ }
+{
+    let process = Process(255);
+    let step = Kind::Step;
+    Entry {
+        process: process,
+        kind: step,
+    }
+}
+
 // What an entry's twelve bytes ask.
 fn meaning(e: &[u8]) -> Entry
     requires { ⌜ length (now e) ≡ 12 ⌝ }
-    ensures { λ r. ⌜ r ≡ meant (now (e .entry)) ⌝ }
+    ensures { λ r. ⌜ (r ≡ meant (now (e .entry))) × (r .process .0 < 256) ⌝ }
 {
     let kind = e[0];
-    let process = e[1];
+    let p = wide(e[1]) as usize;
     let value = eight(e, 4);
+    let process = Process(p);
     if kind == 1 {
-        return Entry::Load(process);
+        let request = Request::Load;
+        let load = Kind::Ask(request);
+        return Entry {
+            process: process,
+            kind: load,
+        };
     }
     if kind == 2 {
-        return Entry::Store(process, value);
+        let request = Request::Store(value);
+        let store = Kind::Ask(request);
+        return Entry {
+            process: process,
+            kind: store,
+        };
     }
     if kind == 3 {
-        return Entry::Check(process);
+        let request = Request::Check;
+        let check = Kind::Ask(request);
+        return Entry {
+            process: process,
+            kind: check,
+        };
     }
     if kind == 4 {
-        return Entry::Step(process);
+        let step = Kind::Step;
+        return Entry {
+            process: process,
+            kind: step,
+        };
     }
-    Entry::Nothing
+    no_entry()
 }
 
 // Entry j of a part that holds entries.
 pub fn entry_at(part: &[u8], j: usize) -> Entry
-    ensures { λ r. ⌜ r ≡ entryAt (now (part .entry)) j ⌝ }
+    ensures { λ r. ⌜ (r ≡ entryAt (now (part .entry)) j) × (r .process .0 < 256) ⌝ }
 {
     let n = part.len() / 12;
     if j < n {
@@ -157,6 +192,6 @@ pub fn entry_at(part: &[u8], j: usize) -> Entry
         let e = &part[at..end];
         meaning(e)
     } else {
-        Entry::Nothing
+        no_entry()
     }
 }

@@ -6,28 +6,18 @@ pub mod check;
 pub mod file;
 pub mod later;
 
-pub use block0::read_head;
+pub use block0::read_first;
 pub use check::check_of;
 pub use file::block_of;
-pub use file::entry_of;
 pub use file::read_file;
 pub use later::entries_of;
 pub use later::entry_at;
 pub use later::read_block;
 pub use later::used_entries;
 
-// What an entry asks of its process. `Nothing` is the answer where no entry stands.
-pub enum Entry {
-    Load(u8),
-    Store(u8, u64),
-    Check(u8),
-    Step(u8),
-    Nothing,
-}
-
 // What block 0 says: the number that refuses it, or N, S and V.
-pub enum Head {
-    HeadRefused(usize),
+pub enum FirstBlock {
+    FirstRefused(usize),
     Start { n: u8, s: u64, v: u64 },
 }
 

@@ -1,42 +1,53 @@
--- Each step reaches one shared register, but step 9 two; what it does not reach it neither changes nor depends on.
-use Prim.Native.Nat.{ℕ, _≤_, _%_}
+-- Over the parts that a step is given: what it does not reach it neither changes nor depends on. Stated over the whole machine in
+-- machine/specs/Registers.antt.
+use Prim.Native.Nat.{ℕ, _%_}
 use mathlib.Core.Path.{_≡_, refl, sym, ap, subst, _∙_}
-use mathlib.Core.Logic.{_≢_, ⊎-elim}
+use mathlib.Core.Logic.{⊎-elim}
 use mathlib.Core.Bool.{Bool, true, false, cond}
 use mathlib.Core.List.{List, [], _∷_, List·Memᴰ, List·Memᴰ·head, List·Memᴰ·tail, List·Memᴰ·cases-cons, List·Memᴰ·eq-of-singleton}
 use native.Mathlib.Omega.{arith}
-use native.Mathlib.Decide.{ℕ-discrete}
 use lib.Dec.{leb}
 use lib.IntN.{ℤ, pos, _-ℤ_}
 use lib.ListN.{length, getD, set, length-set}
 use lib.Seq.{getD-set-same, getD-set-other}
 use Rattle.step.specs.Number.{isNear, sameTag, withOld}
 use Rattle.step.specs.Steps.{stepAt, stepOf, reached, reachedAt, largestNext, slot, withSlot, withOldValue}
-use Rattle.step.specs.Registers.{Register, theX, theSlot, theOldValue, theOldNumber, Content, aTag, aValue, aNumber, holds, reachesAt, reaches}
-use Rattle.step.specs.declared.Process.{Process}
+use Rattle.step.specs.Registers.{Content, aTag, aValue, aNumber}
+use Rattle.numbers.specs.declared.Process.{Process}
 use Rattle.step.specs.declared.Tag.{Tag}
 use Rattle.step.specs.declared.Row.{Row}
 use Rattle.step.specs.declared.Record.{Record}
 use Rattle.step.specs.declared.Place.{Place}
 use Rattle.step.specs.declared.Place.the-variants.{Idle, Load1, Load2, Load3, Load5, Store7, Store8, Store9, Store10, Check14}
-use Rattle.step.specs.declared.Outcome.{Outcome}
 use Rattle.step.specs.declared.Stepped.{Stepped}
 
--- One register but at step 9, and there two of p's own row.
-pub one-register : (own : Record) (place : Place) → place ≢ Store9 → length (reachesAt own place) ≤ 1
-one-register own Idle ne = omega arith
-one-register own Load1 ne = omega arith
-one-register own Load2 ne = omega arith
-one-register own (Load3 v) ne = omega arith
-one-register own Load5 ne = omega arith
-one-register own (Store7 v) ne = omega arith
-one-register own Store8 ne = omega arith
-one-register own Store9 ne = absurd (ne refl)
-one-register own Store10 ne = omega arith
-one-register own Check14 ne = omega arith
+-- the registers of what a step is given: X, and those of the one row
+pub data Register : Type 0 where
+  theX : Register
+  theSlot : ℕ → Register
+  theOldValue : Register
+  theOldNumber : Register
 
-pub two-own-registers : (p : Process) (own : Record) → own .place ≡ Store9 → (length (reaches own) ≡ 2) × (reached p own ≡ p)
-two-own-registers p own e = rw e (refl, refl)
+abbrev pub holds : Tag → Row → Register → Content
+holds x row theX = aTag x
+holds x row (theSlot i) = aValue (getD (row .slots) i 0)
+holds x row theOldValue = aValue (row .«old_value»)
+holds x row theOldNumber = aNumber (row .«old_number»)
+
+abbrev pub reachesAt : Record → Place → List Register
+reachesAt own Idle = []
+reachesAt own Load1 = theX ∷ []
+reachesAt own Load2 = theSlot (own .kept .number .0 % 2) ∷ []
+reachesAt own (Load3 v) = theOldNumber ∷ []
+reachesAt own Load5 = theOldValue ∷ []
+reachesAt own (Store7 v) = theSlot (own .next .0 % 2) ∷ []
+reachesAt own Store8 = theX ∷ []
+reachesAt own Store9 = theSlot (own .next .0 % 2) ∷ theOldValue ∷ []
+reachesAt own Store10 = theOldNumber ∷ []
+reachesAt own Check14 = theX ∷ []
+
+abbrev pub reaches : Record → List Register
+reaches own = reachesAt own (own .place)
 
 -- what holds of both results of a test holds of its result
 pub either-way : (P : Stepped → Type 0) (b : Bool) {m m′ : Stepped} → P m → P m′ → P (cond b m m′)
@@ -92,13 +103,13 @@ un-number e = cc
 
 -- What a step gives depends on its own record and on the registers that it reaches: with the same contents there it gives the
 -- same outcome and the same record, and leaves the same contents.
-pub record SameStep (reach : List Register) (m m′ : Stepped) : Type 0 where
+pub record SameParts (reach : List Register) (m m′ : Stepped) : Type 0 where
   pub outcome : m .outcome ≡ m′ .outcome
   pub own : m .own ≡ m′ .own
   pub contents : (r : Register) → List·Memᴰ r reach → holds (m .x) (m .row) r ≡ holds (m′ .x) (m′ .row) r
 
-same-ways : (reach : List Register) (b b′ : Bool) → b ≡ b′ → {m n m′ n′ : Stepped} → SameStep reach m m′ → SameStep reach n n′
-    → SameStep reach (cond b m n) (cond b′ m′ n′)
+same-ways : (reach : List Register) (b b′ : Bool) → b ≡ b′ → {m n m′ n′ : Stepped} → SameParts reach m m′ → SameParts reach n n′
+    → SameParts reach (cond b m n) (cond b′ m′ n′)
 same-ways reach true true e h h′ = h
 same-ways reach true false e h h′ = let z : _≡_ {A = ℕ} 0 1 = cc in absurd (omega arith)
 same-ways reach false true e h h′ = let z : _≡_ {A = ℕ} 0 1 = cc in absurd (omega arith)
@@ -125,7 +136,7 @@ module _ (p : Process) (own : Record) (x x′ : Tag) (row row′ : Row) (two : T
       getD-set-same (row .slots) (k % 2) v 0 (omega (arith, two .slots))
       ∙ sym (getD-set-same (row′ .slots) (k % 2) v 0 (omega (arith, two′ .slots)))
 
-  same-at : (place : Place) → Agree (reachesAt own place) → SameStep (reachesAt own place) (stepAt p x own row place) (stepAt p x′ own row′ place)
+  same-at : (place : Place) → Agree (reachesAt own place) → SameParts (reachesAt own place) (stepAt p x own row place) (stepAt p x′ own row′ place)
   same-at Idle agree = record { outcome = refl; own = refl; contents = agree }
   same-at Load1 agree =
       let e = un-tag (agree theX (List·Memᴰ·head refl)) in
@@ -171,7 +182,7 @@ module _ (p : Process) (own : Record) (x x′ : Tag) (row row′ : Row) (two : T
       let e = un-tag (agree theX (List·Memᴰ·head refl)) in
       record { outcome = rw e; own = refl; contents = agree }
 
-  pub reached-decides : Agree (reaches own) → SameStep (reaches own) (stepOf p x own row) (stepOf p x′ own row′)
+  pub reached-decides : Agree (reaches own) → SameParts (reaches own) (stepOf p x own row) (stepOf p x′ own row′)
   unfolding stepOf
   reached-decides agree =
       same-ways (reaches own) (leb (own .next .0) largestNext) (leb (own .next .0) largestNext) refl

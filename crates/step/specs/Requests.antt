@@ -1,9 +1,8 @@
 -- Document 01, "A request starts a call and reaches no register."
-use Prim.Native.Nat.{ℕ}
 use mathlib.Core.Bool.{Bool, true, false, cond}
 use lib.Dec.{leb}
 use Rattle.step.specs.Steps.{at}
-use Rattle.step.specs.declared.Sequence.{Sequence}
+use Rattle.numbers.specs.declared.Sequence.{Sequence}
 use Rattle.step.specs.declared.Place.{Place}
 use Rattle.step.specs.declared.Place.the-variants.{Idle, Load1, Load2, Load3, Load5, Store7, Store8, Store9, Store10, Check14}
 use Rattle.step.specs.declared.Record.{Record}
@@ -35,11 +34,11 @@ abbrev pub begun : Record → Place → Requested
 begun own place = record { own = at own place; outcome = Taken }
 
 -- 13: "SC request when the next number is above S"
-abbrev pub asked : Sequence → Record → Request → Requested
-asked last own Load = begun own Load1
-asked last own (Store v) = cond (leb (own .next .0) (last .0)) (begun own (Store7 v)) (notTaken own UsedUp)
-asked last own Check = begun own Check14
+abbrev pub whenIdle : Sequence → Record → Request → Requested
+whenIdle last own Load = begun own Load1
+whenIdle last own (Store v) = cond (leb (own .next .0) (last .0)) (begun own (Store7 v)) (notTaken own UsedUp)
+whenIdle last own Check = begun own Check14
 
 -- 12: "request to a process that has a call open"; then 13
 unfoldable pub requestOf : Sequence → Record → Request → Requested
-requestOf last own request = cond (idle (own .place)) (asked last own request) (notTaken own CallOpen)
+requestOf last own request = cond (idle (own .place)) (whenIdle last own request) (notTaken own CallOpen)

@@ -1,12 +1,12 @@
 -- Document 01, "The steps". A step of process p sees X, p's own record and one row of registers, and says what it leaves of each.
 use Prim.Native.Nat.{ℕ, _+_, _%_}
-use mathlib.Core.Bool.{Bool, true, false, cond}
+use mathlib.Core.Bool.{cond}
 use lib.Dec.{leb}
 use lib.IntN.{pos, _-ℤ_}
 use lib.ListN.{getD, set}
 use Rattle.step.specs.Number.{isNear, withOld, sameTag}
-use Rattle.step.specs.declared.Process.{Process}
-use Rattle.step.specs.declared.Sequence.{Sequence}
+use Rattle.numbers.specs.declared.Process.{Process}
+use Rattle.numbers.specs.declared.Sequence.{Sequence}
 use Rattle.step.specs.declared.Tag.{Tag}
 use Rattle.step.specs.declared.Row.{Row}
 use Rattle.step.specs.declared.Place.{Place}
@@ -41,8 +41,8 @@ abbrev pub answered : Tag → Record → Row → Outcome → Stepped
 answered x own row outcome = record { x = x; own = at own Idle; row = row; outcome = outcome }
 
 -- a refused step: "state the same"
-abbrev pub refused : Tag → Record → Row → Outcome → Stepped
-refused x own row outcome = record { x = x; own = own; row = row; outcome = outcome }
+abbrev pub asWas : Tag → Record → Row → Outcome → Stepped
+asWas x own row outcome = record { x = x; own = own; row = row; outcome = outcome }
 
 -- "Step 1: kept tag becomes X; call it [q, k]."
 abbrev pub step1 : Tag → Record → Row → Stepped
@@ -86,7 +86,7 @@ step14 x own row = answered x own row (cond (sameTag x (own .kept)) Yes No)
 
 -- "A step entry then runs the next step of the named process"; 14 is for a step of an idle process.
 abbrev pub stepAt : Process → Tag → Record → Row → Place → Stepped
-stepAt p x own row Idle = refused x own row NoCall
+stepAt p x own row Idle = asWas x own row NoCall
 stepAt p x own row Load1 = step1 x own row
 stepAt p x own row Load2 = step2 x own row
 stepAt p x own row (Load3 v) = step3 x own row v
@@ -102,7 +102,7 @@ abbrev pub largestNext : ℕ
 largestNext = 4294967296
 
 unfoldable pub stepOf : Process → Tag → Record → Row → Stepped
-stepOf p x own row = cond (leb (own .next .0) largestNext) (stepAt p x own row (own .place)) (refused x own row Unsound)
+stepOf p x own row = cond (leb (own .next .0) largestNext) (stepAt p x own row (own .place)) (asWas x own row Unsound)
 
 -- Which process's row a step is given. Steps 2, 3 and 5 reach the row of q, the process in the kept tag; steps 7, 9 and 10 reach
 -- p's own. The others reach no row: they are given p's own and hand it back as it was.

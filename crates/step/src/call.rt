@@ -2,15 +2,13 @@
 ghost use mathlib.Core.Path.{_≡_};
 ghost use Prim.Native.Nat.{_≤_};
 ghost use Rattle.step.specs.Steps.{stepAt, stepOf, reached, ownSteps};
-ghost use Rattle.step.specs.Requests.{idle, begun, asked, requestOf};
+ghost use Rattle.step.specs.Requests.{idle, begun, whenIdle, requestOf};
 use crate::Outcome;
 use crate::Place;
-use crate::Process;
 use crate::Record;
 use crate::Request;
 use crate::Requested;
 use crate::Row;
-use crate::Sequence;
 use crate::Stepped;
 use crate::Tag;
 use crate::load::step_1;
@@ -22,6 +20,8 @@ use crate::store::step_7;
 use crate::store::step_8;
 use crate::store::step_9;
 use crate::store::step_10;
+use numbers::Process;
+use numbers::Sequence;
 
 fn is_idle(place: Place) -> bool
     ensures { λ r. ⌜ r ≡ idle place ⌝ }
@@ -57,7 +57,7 @@ fn begin(own: Record, place: Place) -> Requested
 }
 
 fn ask(last: Sequence, own: Record, request: Request) -> Requested
-    ensures { λ r. ⌜ r ≡ asked last own request ⌝ }
+    ensures { λ r. ⌜ r ≡ whenIdle last own request ⌝ }
 {
     let k = own.next.0;
     let s = last.0;

@@ -7,12 +7,8 @@ pub mod number;
 mod parts;
 mod store;
 
-// A process number, a sequence number and a count of changes are three types, so that none is taken for another.
-pub struct Process(pub usize);
-
-pub struct Sequence(pub u64);
-
-pub struct Version(pub u64);
+use numbers::Process;
+use numbers::Sequence;
 
 // What X holds, and what a process keeps of it: whose store it was, and which of its stores.
 pub struct Tag {
@@ -70,6 +66,18 @@ pub enum Request {
     Load,
     Store(u64),
     Check,
+}
+
+// What an entry asks of its process: a call, or its next step.
+pub enum Kind {
+    Ask(Request),
+    Step,
+}
+
+// One entry, from the file to the machine.
+pub struct Entry {
+    pub process: Process,
+    pub kind: Kind,
 }
 
 // What a request leaves of a process's record.

@@ -1,12 +1,12 @@
 // The tests on numbers that the steps make. The signed old number is read and written in this file only.
 ghost use mathlib.Core.Path.{_≡_};
-ghost use mathlib.Core.Bool.{_&&_};
 ghost use Prim.Native.Nat.{_≤_};
 ghost use lib.IntN.{pos, _-ℤ_};
 ghost use Rattle.step.specs.Number.{isNear, isOld, withOld, sameTag};
 use crate::Row;
-use crate::Sequence;
 use crate::Tag;
+use numbers::Sequence;
+use numbers::both;
 
 // Step 3's test.
 pub(crate) fn old_is_near(row: Row, number: Sequence) -> bool
@@ -67,11 +67,4 @@ pub fn same_tag(a: Tag, b: Tag) -> bool
     let owner = p == q;
     let number = k == j;
     both(owner, number)
-}
-
-// Two tests in one, with no branch for a proof to follow.
-pub fn both(a: bool, b: bool) -> bool
-    ensures { λ r. ⌜ r ≡ (a && b) ⌝ }
-{
-    if a { b } else { false }
 }

@@ -7,9 +7,9 @@ use crate::Outcome;
 use crate::Place;
 use crate::Record;
 use crate::Row;
-use crate::Sequence;
 use crate::Stepped;
 use crate::Tag;
+use numbers::Sequence;
 
 // The slot that a sequence number uses.
 fn parity(k: Sequence) -> usize

@@ -4,10 +4,8 @@ ghost use Prim.Native.Nat.{_≤_};
 ghost use Rattle.step.specs.Steps.{step7, step8, step9, step10};
 use crate::Outcome;
 use crate::Place;
-use crate::Process;
 use crate::Record;
 use crate::Row;
-use crate::Sequence;
 use crate::Stepped;
 use crate::Tag;
 use crate::number::same_tag;
@@ -17,6 +15,8 @@ use crate::parts::go_on;
 use crate::parts::read_slot;
 use crate::parts::stand_at;
 use crate::parts::write_slot;
+use numbers::Process;
+use numbers::Sequence;
 
 pub(crate) fn step_7(x: Tag, own: Record, row: Row, v: u64) -> Stepped
     ensures { λ r. ⌜ r ≡ step7 x own row v ⌝ }

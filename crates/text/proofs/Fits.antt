@@ -1,13 +1,11 @@
 -- 128 bytes have room for every line, whatever its numbers are.
 -- Assumes nothing.
 use Prim.Native.Nat.{ℕ, _≤_}
-use mathlib.Core.Path.{_≡_, refl}
-use mathlib.Core.List.{List, [], _∷_, _++_}
 use native.Mathlib.Omega.{arith}
 use lib.ListN.{length, length-append}
 use Rattle.log.specs.declared.Note.{Note}
 use Rattle.text.specs.Decimal.{decimalOf}
-use Rattle.text.specs.Lines.{bytesIn, field, space, newline, headLine, lineOf, refusedLine}
+use Rattle.text.specs.Lines.{headLine, lineOf, refusedLine}
 use Rattle.text.proofs.Digits.{decimal-length}
 
 pub number-fits : (n : ℕ) → length (decimalOf n) ≤ 128

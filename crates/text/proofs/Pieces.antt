@@ -1,7 +1,7 @@
 -- Pieces of a text stored one behind the other, and a whole line in a lent part.
 -- Assumes nothing.
 use Prim.Native.Nat.{ℕ, suc, _+_, _≤_, _<_}
-use mathlib.Core.Path.{_≡_, refl, sym, ap, _∙_}
+use mathlib.Core.Path.{_≡_, refl, ap, _∙_}
 use mathlib.Core.Bool.{Bool, true, false, cond}
 use mathlib.Core.List.{List, [], _∷_, _++_}
 use native.Mathlib.Nat.{add-zero, zero-add, add-assoc}
@@ -12,13 +12,29 @@ use lib.Dec.{leb}
 use lib.ListN.{length, getD, take, drop, set, length-append}
 use lib.Seq.{sets, sets-eq, length-sets, take-suc, take-length}
 use Rattle.text.specs.Lines.{printed, printedCount}
-use Rattle.text.specs.Put.{Put}
 
 sets-more : (first then out : List ℕ) (at : ℕ) → sets (sets out at first) (at + length first) then ≡ sets out at (first ++ then)
 sets-more [] then out at = rw (add-zero at)
 sets-more (b ∷ first) then out at =
     let e : at + suc (length first) ≡ suc at + length first = omega arith in
     rw e (sets-more first then (set out at b) (suc at))
+
+-- a text stored byte by byte from place `at` on, and the place behind it
+pub record Put (text before : List ℕ) (at : ℕ) (after : List ℕ) (next : ℕ) : Type 0 where
+  pub place : next ≡ at + length text
+  pub bytes : after ≡ sets before at text
+
+-- so the inner functions promise it, and so it is handed back
+pub piece : (text before : List ℕ) (at : ℕ) {after : List ℕ} {next : ℕ} → (next ≡ at + length text) × (after ≡ sets before at text)
+    → Put text before at after next
+piece text before at p = record { place = p .0; bytes = p .1 }
+
+pub pieces : {text before after : List ℕ} {at next : ℕ} → Put text before at after next → (next ≡ at + length text) × (after ≡ sets before at text)
+pieces p = (p .place, p .bytes)
+
+-- from the front on
+pub whole : {text before after : List ℕ} {next : ℕ} → Put text before 0 after next → (next ≡ length text) × (after ≡ sets before 0 text)
+whole {text} p = (p .place ∙ zero-add (length text), p .bytes)
 
 -- one piece, and then another
 pub put-more : {first then out mid left : List ℕ} {at next last : ℕ} → Put first out at mid next → Put then mid next left last
@@ -48,12 +64,12 @@ put-whole word out left at i e p =
     rw all at p
 
 -- a line from the front of a part that is long enough
-pub line-printed : {text out left : List ℕ} {next : ℕ} → 128 ≤ length out → length text ≤ 128 → Put text out 0 left next
-    → (next ≡ printedCount text out) × (left ≡ printed text out)
-line-printed {text} {out} h k p =
+pub line-printed : (text out : List ℕ) {left : List ℕ} {next : ℕ} → 128 ≤ length out → length text ≤ 128
+    → (next ≡ length text) × (left ≡ sets out 0 text) → (next ≡ printedCount text out) × (left ≡ printed text out)
+line-printed text out h k p =
     let room : 0 + length text ≤ length out = omega arith in (
-      rw (le-leb 128 (length out) h, p .place, zero-add),
-      rw (le-leb 128 (length out) h, p .bytes, sets-eq text out 0 room, zero-add),
+      rw (le-leb 128 (length out) h, p .0),
+      rw (le-leb 128 (length out) h, p .1, sets-eq text out 0 room, zero-add),
     )
 
 -- and nothing at all where it is not

@@ -8,7 +8,6 @@ use mathlib.Core.List.{List, [], _∷_, _++_}
 use lib.Dec.{leb}
 use lib.ListN.{length, drop}
 use Rattle.log.specs.Log.{headFound, noteFound}
-use Rattle.log.specs.declared.Head.{Head}
 use Rattle.log.specs.declared.HeadFound.{HeadFound}
 use Rattle.log.specs.declared.HeadFound.the-variants.{Laid, NoHead}
 use Rattle.log.specs.declared.Note.{Note}

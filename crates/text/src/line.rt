@@ -3,10 +3,10 @@
 ghost use mathlib.Core.Path.{_≡_};
 ghost use Prim.Native.Nat.{_≤_};
 ghost use lib.ListN.{length};
+ghost use lib.Seq.{sets};
 ghost use Rattle.log.specs.Log.{headFound, noteFound};
 ghost use Rattle.text.specs.Decimal.{decimalOf};
 ghost use Rattle.text.specs.Lines.{headLine, lineOf, refusedLine, headText, lineText, printed, printedCount};
-ghost use Rattle.text.specs.Put.{Put};
 use crate::put::put_field;
 use crate::put::put_number;
 use crate::put::put_word;
@@ -21,7 +21,7 @@ pub const ROOM: usize = 128;
 
 fn put_head_line(out: &mut [u8], entries: u32, changes: u32, n: u8) -> usize
     requires { ⌜ 128 ≤ length (now out) ⌝ }
-    ensures { λ r. ⌜ Put (headLine entries changes n) (now (out .entry)) 0 (now (out .exit)) r ⌝ }
+    ensures { λ r. ⌜ (r ≡ length (headLine entries changes n)) × (now (out .exit) ≡ sets (now (out .entry)) 0 (headLine entries changes n)) ⌝ }
 {
     let a = put_word(out, 0, b"entries ");
     let b = put_field(out, a, entries as u64, b' ');
@@ -33,7 +33,7 @@ fn put_head_line(out: &mut [u8], entries: u32, changes: u32, n: u8) -> usize
 
 fn put_line(out: &mut [u8], place: u32, note: Note) -> usize
     requires { ⌜ 128 ≤ length (now out) ⌝ }
-    ensures { λ r. ⌜ Put (lineOf place note) (now (out .entry)) 0 (now (out .exit)) r ⌝ }
+    ensures { λ r. ⌜ (r ≡ length (lineOf place note)) × (now (out .exit) ≡ sets (now (out .entry)) 0 (lineOf place note)) ⌝ }
 {
     let process = note.process as u64;
     let outcome = note.outcome as u64;
@@ -50,7 +50,7 @@ fn put_line(out: &mut [u8], place: u32, note: Note) -> usize
 
 fn put_refused_line(out: &mut [u8], number: u32, block: u32) -> usize
     requires { ⌜ 128 ≤ length (now out) ⌝ }
-    ensures { λ r. ⌜ Put (refusedLine number block) (now (out .entry)) 0 (now (out .exit)) r ⌝ }
+    ensures { λ r. ⌜ (r ≡ length (refusedLine number block)) × (now (out .exit) ≡ sets (now (out .entry)) 0 (refusedLine number block)) ⌝ }
 {
     let a = put_word(out, 0, b"refused ");
     let b = put_field(out, a, number as u64, b' ');

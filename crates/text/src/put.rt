@@ -1,15 +1,15 @@
 // Pieces of a line. Each is stored from a place of the lent part on, and answers with the place behind it.
 ghost use mathlib.Core.Path.{_≡_};
-ghost use mathlib.Core.List.{[], _∷_, _++_};
+ghost use mathlib.Core.List.{[], _∷_};
 ghost use Prim.Native.Nat.{_+_, _≤_, _<_};
 ghost use lib.ListN.{length};
+ghost use lib.Seq.{sets};
 ghost use Rattle.text.specs.Decimal.{decimalOf};
 ghost use Rattle.text.specs.Lines.{field};
-ghost use Rattle.text.specs.Put.{Put};
 
 fn put_byte(out: &mut [u8], at: usize, b: u8) -> usize
     requires { ⌜ at < length (now out) ⌝ }
-    ensures { λ r. ⌜ Put (b ∷ []) (now (out .entry)) at (now (out .exit)) r ⌝ }
+    ensures { λ r. ⌜ (r ≡ at + length (b ∷ [])) × (now (out .exit) ≡ sets (now (out .entry)) at (b ∷ [])) ⌝ }
 {
     out[at] = b;
     at + 1
@@ -18,7 +18,7 @@ fn put_byte(out: &mut [u8], at: usize, b: u8) -> usize
 // A text that is known beforehand.
 pub(crate) fn put_word(out: &mut [u8], at: usize, word: &[u8]) -> usize
     requires { ⌜ at + length (now word) ≤ length (now out) ⌝ }
-    ensures { λ r. ⌜ Put (now (word .entry)) (now (out .entry)) at (now (out .exit)) r ⌝ }
+    ensures { λ r. ⌜ (r ≡ at + length (now (word .entry))) × (now (out .exit) ≡ sets (now (out .entry)) at (now (word .entry))) ⌝ }
 {
     let mut i = 0;
     while i < word.len() {
@@ -32,7 +32,7 @@ pub(crate) fn put_word(out: &mut [u8], at: usize, word: &[u8]) -> usize
 // The digits before the last one are those of n / 10.
 pub(crate) fn put_number(out: &mut [u8], at: usize, n: u64) -> usize
     requires { ⌜ at + length (decimalOf n) ≤ length (now out) ⌝ }
-    ensures { λ r. ⌜ Put (decimalOf n) (now (out .entry)) at (now (out .exit)) r ⌝ }
+    ensures { λ r. ⌜ (r ≡ at + length (decimalOf n)) × (now (out .exit) ≡ sets (now (out .entry)) at (decimalOf n)) ⌝ }
 {
     let last = n % 10;
     let digit = (48 + last) as u8;
@@ -47,7 +47,7 @@ pub(crate) fn put_number(out: &mut [u8], at: usize, n: u64) -> usize
 // A number and what ends it.
 pub(crate) fn put_field(out: &mut [u8], at: usize, n: u64, end: u8) -> usize
     requires { ⌜ at + 21 ≤ length (now out) ⌝ }
-    ensures { λ r. ⌜ Put (field n end) (now (out .entry)) at (now (out .exit)) r × (r ≤ at + 21) ⌝ }
+    ensures { λ r. ⌜ ((r ≡ at + length (field n end)) × (now (out .exit) ≡ sets (now (out .entry)) at (field n end))) × (r ≤ at + 21) ⌝ }
 {
     let next = put_number(out, at, n);
     put_byte(out, next, end)

@@ -2,11 +2,12 @@
 -- These are the facts that an edit of a definition breaks.
 -- Assumes nothing.
 use Prim.Native.Nat.{ℕ}
-use mathlib.Core.Path.{refl}
+use mathlib.Core.Path.{_≡_, refl}
 use mathlib.Core.List.{List, [], _∷_, List·Mem, Perm·cons, Perm·symm, Perm·mem-iff, perm-append-singleton}
 use native.Mathlib.Omega.{arith}
 use Rattle.word.specs.Word.{Op, load, store, check, Answer, value, done, notDone, saysYes, saysNo, first}
 use Rattle.word.specs.Order.{Call, Every, Plays, InTime, InOrder}
+use Rattle.word.specs.Calls.{Item, asks, goes, answers, away, Reply, noCalls, callsFrom}
 
 -- Exactly the calls given: each stands in the order, and nothing else does.
 module _ {A : Type 0} (a : A) (calls : List (Call A)) (o : InOrder a calls) (c : Call A) where
@@ -71,3 +72,17 @@ run-h = record {
 -- A call decided at 1 does not stand behind one that was requested at 5.
 pub no-turning-back : (p q v w : ℕ) (o o′ : Op ℕ) (r r′ : Answer ℕ) → ¬ InTime (call 5 6 p v o r ∷ call 0 1 q w o′ r′ ∷ [])
 no-turning-back p q v w o o′ r r′ h = omega (arith, h .0 .0)
+
+-- The calls that a list of items tells: of process 1's load two steps go on; process 0 stores 20 by two steps, and is not answered; the load
+-- is answered; process 2's check says no; process 0's next request is turned away, and its store is answered.
+abbrev pub items : List (Item ℕ)
+items = asks 1 0 load ∷ goes 1 ∷ asks 0 0 (store 20) ∷ goes 0 ∷ goes 0 ∷ goes 1 ∷ answers 1 (value 7) ∷ asks 2 0 check ∷ answers 2 saysNo ∷ away ∷ goes 0 ∷ answers 0 done ∷ []
+
+abbrev pub reply : ℕ → ℕ → ℕ → Op ℕ → ℕ → Answer ℕ → Reply ℕ
+reply place asked p o steps r = record { place = place; asked = asked; process = p; word = 0; op = o; steps = steps; answer = r }
+
+pub items-read :
+    (callsFrom 2 noCalls items .played ≡ call 2 4 0 0 (store 20) done ∷ call 0 6 1 0 load (value 7) ∷ call 7 8 2 0 check saysNo ∷ [])
+    × (callsFrom 2 noCalls items .replies ≡ reply 6 0 1 load 3 (value 7) ∷ reply 8 7 2 check 1 saysNo ∷ reply 11 2 0 (store 20) 4 done ∷ [])
+unfolding callsFrom
+items-read = (refl, refl)

@@ -9,6 +9,7 @@
 --     Insert    a load put in before change n + 1 of its word (ins, ins-plays, ins-after, ins-in-time)
 --     RealTime  "stands first" by places of the order (stands-first)
 --     Good      an order of the calls decided so far, and the three ways in which it goes on
+--     Told      replies and played calls, and how they go on; done-on: an item adds to the stores done exactly if it decides one
 --     Decide    playing and real time decided by computing
 -- A machine's proof needs this of them:
 --     the order      good-start, good-tick, good-append, good-load; at the end good-order and good-first
@@ -28,3 +29,4 @@ pub mod Play
 pub mod Put
 pub mod RealTime
 pub mod Relink
+pub mod Told

@@ -1,2 +1,4 @@
-pub mod Order
 pub mod Word
+pub mod Order
+pub mod Calls
+pub mod OneOrder

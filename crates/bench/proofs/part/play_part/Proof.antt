@@ -1,10 +1,9 @@
 -- The loop keeps `Turn`: after j turns state, count and log are those of the run of the first j entries. Each turn is `turn-next`.
 -- Assumes nothing.
 use borrow.Author.Needs.{needs}
-use Prim.Native.Nat.{_≤_, _<_, _-_}
+use Prim.Native.Nat.{_<_, _-_}
 use native.Mathlib.Omega.{arith}
-use Rattle.bench.specs.Asked.{entryBy}
-use Rattle.bench.proofs.Turn.{Turn, turn-start, turn-next, turn-end, entry-read, seat-there, row-there, count-low, log-length}
+use Rattle.bench.proofs.Turn.{Turn, turn-start, turn-next, turn-end, seat-there, row-there, count-low, log-length}
 use Rattle.bench.proofs.part.play_part.Statement.{statement}
 use Rattle.bench.proofs.part.play_part.Tie as tie
 
@@ -16,62 +15,55 @@ abbrev μ-loop : tie.MeasureT-loop
 
 loop-holds : tie.Need-loop-holds Inv-loop μ-loop
 loop-holds c =
-    let a = c .before .before .before .before .before .args in
     let h = c .before .before .before .before .before .pre in
     turn-start _ _ _ _ _ (h .0) (h .1) (h .2)
 
 entry-at-requires : tie.Need-entry-at-requires Inv-loop μ-loop
 entry-at-requires c κs = search needs
 
-process-of-requires : tie.Need-process-of-requires Inv-loop μ-loop
-process-of-requires c κs = search needs
-
-kind-of-requires : tie.Need-kind-of-requires Inv-loop μ-loop
-kind-of-requires c κs = search needs
-
-cast-place-of : tie.Need-cast-place-of Inv-loop μ-loop
-cast-place-of c = search needs
-
 seat-of-requires : tie.Need-seat-of-requires Inv-loop μ-loop
 seat-of-requires c κs = search needs
 
 mul-own : tie.Need-mul-own Inv-loop μ-loop
 mul-own c =
-    let l : c .before .seat-of .result < 16 = seat-there (c .before .before .before .before .before .before .loop .inv) (entryBy (c .before .before .before .process-of .result) (c .before .before .kind-of .result)) _ (c .before .seat-of .ensures) in
+    let l : c .before .seat-of .result .0 < 16 = seat-there (c .before .before .before .before .before .loop .inv) (c .before .before .before .entry-at .result) _ (c .before .seat-of .ensures) in
     omega arith
 
 element-copy-out-own : tie.Need-element-copy-out-own Inv-loop μ-loop
-element-copy-out-own c = seat-there (c .before .before .before .before .before .before .loop .inv) (entryBy (c .before .before .before .process-of .result) (c .before .before .kind-of .result)) _ (c .before .seat-of .ensures)
+element-copy-out-own c = seat-there (c .before .before .before .before .before .loop .inv) (c .before .before .before .entry-at .result) _ (c .before .seat-of .ensures)
 
 row-given-requires : tie.Need-row-given-requires Inv-loop μ-loop
 row-given-requires c κs = search needs
 
 mul-row : tie.Need-mul-row Inv-loop μ-loop
 mul-row c =
-    let l : c .row-given .result < 16 = row-there (c .before .before .before .before .before .before .before .before .loop .inv) (entryBy (c .before .before .before .before .before .process-of .result) (c .before .before .before .before .kind-of .result)) _ _ (c .before .before .before .seat-of .ensures) (c .row-given .ensures) in
+    let l : c .row-given .result .0 < 16 = row-there (c .before .before .before .before .before .before .before .loop .inv) (c .before .before .before .before .before .entry-at .result) _ _ (c .before .before .before .seat-of .ensures) (c .row-given .ensures) in
     omega arith
 
 element-copy-out-row : tie.Need-element-copy-out-row Inv-loop μ-loop
-element-copy-out-row c = row-there (c .before .before .before .before .before .before .before .before .loop .inv) (entryBy (c .before .before .before .before .before .process-of .result) (c .before .before .before .before .kind-of .result)) _ _ (c .before .before .before .seat-of .ensures) (c .row-given .ensures)
+element-copy-out-row c = row-there (c .before .before .before .before .before .before .before .loop .inv) (c .before .before .before .before .before .entry-at .result) _ _ (c .before .before .before .seat-of .ensures) (c .row-given .ensures)
 
 play-parts-requires : tie.Need-play-parts-requires Inv-loop μ-loop
 play-parts-requires c κs = search needs
 
 mul-wrote : tie.Need-mul-wrote Inv-loop μ-loop
 mul-wrote c =
-    let l : c .before .before .before .before .before .row-given .result < 16 = row-there (c .before .before .before .before .before .before .before .before .before .before .before .before .before .loop .inv) (entryBy (c .before .before .before .before .before .before .before .before .before .before .process-of .result) (c .before .before .before .before .before .before .before .before .before .kind-of .result)) _ _ (c .before .before .before .before .before .before .before .before .seat-of .ensures) (c .before .before .before .before .before .row-given .ensures) in
+    let l : c .before .before .before .before .before .row-given .result .0 < 16 = row-there (c .before .before .before .before .before .before .before .before .before .before .before .before .loop .inv) (c .before .before .before .before .before .before .before .before .before .before .entry-at .result) _ _ (c .before .before .before .before .before .before .before .before .seat-of .ensures) (c .before .before .before .before .before .row-given .ensures) in
     omega arith
 
 element-set-from-wrote : tie.Need-element-set-from-wrote Inv-loop μ-loop
-element-set-from-wrote c = row-there (c .before .before .before .before .before .before .before .before .before .before .before .before .before .loop .inv) (entryBy (c .before .before .before .before .before .before .before .before .before .before .process-of .result) (c .before .before .before .before .before .before .before .before .before .kind-of .result)) _ _ (c .before .before .before .before .before .before .before .before .seat-of .ensures) (c .before .before .before .before .before .row-given .ensures)
+element-set-from-wrote c = row-there (c .before .before .before .before .before .before .before .before .before .before .before .before .loop .inv) (c .before .before .before .before .before .before .before .before .before .before .entry-at .result) _ _ (c .before .before .before .before .before .before .before .before .seat-of .ensures) (c .before .before .before .before .before .row-given .ensures)
 
 mul-left : tie.Need-mul-left Inv-loop μ-loop
 mul-left c =
-    let l : c .before .before .before .before .before .before .before .before .seat-of .result < 16 = seat-there (c .before .before .before .before .before .before .before .before .before .before .before .before .before .loop .inv) (entryBy (c .before .before .before .before .before .before .before .before .before .before .process-of .result) (c .before .before .before .before .before .before .before .before .before .kind-of .result)) _ (c .before .before .before .before .before .before .before .before .seat-of .ensures) in
+    let l : c .before .before .before .before .before .before .before .before .seat-of .result .0 < 16 = seat-there (c .before .before .before .before .before .before .before .before .before .before .before .before .loop .inv) (c .before .before .before .before .before .before .before .before .before .before .entry-at .result) _ (c .before .before .before .before .before .before .before .before .seat-of .ensures) in
     omega arith
 
 element-set-from-left : tie.Need-element-set-from-left Inv-loop μ-loop
-element-set-from-left c = seat-there (c .before .before .before .before .before .before .before .before .before .before .before .before .before .loop .inv) (entryBy (c .before .before .before .before .before .before .before .before .before .before .process-of .result) (c .before .before .before .before .before .before .before .before .before .kind-of .result)) _ (c .before .before .before .before .before .before .before .before .seat-of .ensures)
+element-set-from-left c = seat-there (c .before .before .before .before .before .before .before .before .before .before .before .before .loop .inv) (c .before .before .before .before .before .before .before .before .before .before .entry-at .result) _ (c .before .before .before .before .before .before .before .before .seat-of .ensures)
+
+cast-byte : tie.Need-cast-byte Inv-loop μ-loop
+cast-byte c = omega (arith, c .before .before .before .before .before .before .before .before .before .before .before .entry-at .ensures .1)
 
 note-of-requires : tie.Need-note-of-requires Inv-loop μ-loop
 note-of-requires c κs = search needs
@@ -112,10 +104,10 @@ loop-less c = omega (arith, c .before .before .before .before .before .before .b
 
 loop-again : tie.Need-loop-again Inv-loop μ-loop
 loop-again c =
-    turn-next (c .before .before .before .before .before .before .before .before .before .before .before .before .before .before .before .before .before .before .before .loop .inv) (c .before .before .before .before .before .before .before .before .before .before .before .before .before .before .before .before .before .before .loop-test .taken) (entryBy (c .before .before .before .before .before .before .before .before .before .before .before .before .before .before .before .before .process-of .result) (c .before .before .before .before .before .before .before .before .before .before .before .before .before .before .before .kind-of .result))
-    (entry-read _ _ _ (c .before .before .before .before .before .before .before .before .before .before .before .before .before .before .before .before .before .entry-at .ensures) _ (c .before .before .before .before .before .before .before .before .before .before .before .before .before .before .before .before .process-of .ensures) _ (c .before .before .before .before .before .before .before .before .before .before .before .before .before .before .before .kind-of .ensures))
-    _ _ (c .before .before .before .before .before .before .before .before .before .before .before .before .before .before .seat-of .ensures) (c .before .before .before .before .before .before .before .before .before .before .before .row-given .ensures)
-    _ (c .before .before .before .before .before .before .before .before .before .play-parts .ensures)
+    turn-next (c .before .before .before .before .before .before .before .before .before .before .before .before .before .before .before .before .before .before .before .loop .inv) (c .before .before .before .before .before .before .before .before .before .before .before .before .before .before .before .before .before .before .loop-test .taken)
+    _ (c .before .before .before .before .before .before .before .before .before .before .before .before .before .before .before .before .before .entry-at .ensures .0)
+    _ _ (c .before .before .before .before .before .before .before .before .before .before .before .before .before .before .before .seat-of .ensures) (c .before .before .before .before .before .before .before .before .before .before .before .before .row-given .ensures)
+    _ (c .before .before .before .before .before .before .before .before .before .before .play-parts .ensures)
     _ (c .before .before .before .before .before .note-of .ensures)
     _ (c .count .ensures)
     _ (c .before .before .before .write-record .ensures)
@@ -134,9 +126,6 @@ play-part-spec =
     μ-loop
     loop-holds
     entry-at-requires
-    process-of-requires
-    kind-of-requires
-    cast-place-of
     seat-of-requires
     mul-own
     element-copy-out-own
@@ -148,6 +137,7 @@ play-part-spec =
     element-set-from-wrote
     mul-left
     element-set-from-left
+    cast-byte
     note-of-requires
     mul-at
     sub-write-record

@@ -5,7 +5,7 @@ use denote.Ref.{now}
 use native.Mathlib.Omega.{arith}
 use lib.ListN.{length-drop}
 use Rattle.log.proofs.Laws.{tail-given}
-use Rattle.bench.proofs.WholeRun.{accepted, entry-count, few-entries, start-ready, count-fits, rest-there, last-is, log-is}
+use Rattle.bench.proofs.WholeRun.{accepted, entry-count, few-entries, start-ready, rest-there, last-is, log-is}
 use Rattle.bench.proofs.whole.run_entries.Statement.{statement}
 use Rattle.bench.proofs.whole.run_entries.Tie as tie
 
@@ -13,7 +13,15 @@ start-requires : tie.Need-start-requires
 start-requires c κs = search needs
 
 cast-count : tie.Need-cast-count
-cast-count c = omega (arith, few-entries (now (c .before .before .before .before .args .file)) (c .before .before .before .before .args .n) (c .before .before .before .before .args .s) (c .before .before .before .before .args .v) (c .before .before .before .before .args .entries) (c .before .before .before .before .pre .0))
+cast-count c =
+    let start = c .before .before .before .before in
+    let f = now (start .args .file) in
+    let n = start .args .n in
+    let s = start .args .s in
+    let v = start .args .v in
+    let k = start .args .entries in
+    let is = start .pre .0 in
+    omega (arith, few-entries f n s v k is)
 
 lay-head-requires : tie.Need-lay-head-requires
 lay-head-requires c κs = search needs
@@ -28,15 +36,19 @@ part-play-blocks-end : tie.Need-part-play-blocks-end
 part-play-blocks-end c = search needs
 
 play-blocks-requires : tie.Need-play-blocks-requires
-play-blocks-requires c κs = (
-  accepted (now (c .before .before .before .before .before .before .before .before .before .args .file)) (c .before .before .before .before .before .before .before .before .before .args .n) (c .before .before .before .before .before .before .before .before .before .args .s) (c .before .before .before .before .before .before .before .before .before .args .v) (c .before .before .before .before .before .before .before .before .before .args .entries) (c .before .before .before .before .before .before .before .before .before .pre .0),
-  start-ready (now (c .before .before .before .before .before .before .before .before .before .args .file)) (c .before .before .before .before .before .before .before .before .before .args .n) (c .before .before .before .before .before .before .before .before .before .args .s) (c .before .before .before .before .before .before .before .before .before .args .v) (c .before .before .before .before .before .before .before .before .before .args .entries) (c .before .before .before .before .before .before .before .before .before .pre .0) _ (c .before .before .before .before .before .before .start .ensures),
-  rw (tail-given, length-drop) (rest-there (now (c .before .before .before .before .before .before .before .before .before .args .file)) (c .before .before .before .before .before .before .before .before .before .args .n) (c .before .before .before .before .before .before .before .before .before .args .s) (c .before .before .before .before .before .before .before .before .before .args .v) (c .before .before .before .before .before .before .before .before .before .args .entries) (c .before .before .before .before .before .before .before .before .before .pre .0) _ (c .before .before .before .before .before .before .start .ensures) _ (c .before .before .before .before .before .before .before .before .before .pre .1) _ (c .before .before .before .lay-head .ensures)),
-  omega (arith, entry-count (now (c .before .before .before .before .before .before .before .before .before .args .file)) (c .before .before .before .before .before .before .before .before .before .args .n) (c .before .before .before .before .before .before .before .before .before .args .s) (c .before .before .before .before .before .before .before .before .before .args .v) (c .before .before .before .before .before .before .before .before .before .args .entries) (c .before .before .before .before .before .before .before .before .before .pre .0), few-entries (now (c .before .before .before .before .before .before .before .before .before .args .file)) (c .before .before .before .before .before .before .before .before .before .args .n) (c .before .before .before .before .before .before .before .before .before .args .s) (c .before .before .before .before .before .before .before .before .before .args .v) (c .before .before .before .before .before .before .before .before .before .args .entries) (c .before .before .before .before .before .before .before .before .before .pre .0)),
-)
-
-cast-changes : tie.Need-cast-changes
-cast-changes c = omega (arith, count-fits (now (c .before .before .before .before .before .before .before .before .before .before .before .before .before .before .args .file)) (c .before .before .before .before .before .before .before .before .before .before .before .before .before .before .args .n) (c .before .before .before .before .before .before .before .before .before .before .before .before .before .before .args .s) (c .before .before .before .before .before .before .before .before .before .before .before .before .before .before .args .v) (c .before .before .before .before .before .before .before .before .before .before .before .before .before .before .args .entries) (c .before .before .before .before .before .before .before .before .before .before .before .before .before .before .pre .0) _ (c .before .before .before .before .before .before .before .before .before .before .before .start .ensures) _ (c .before .before .before .before .play-blocks .ensures .0))
+play-blocks-requires c κs =
+    let start = c .before .before .before .before .before .before .before .before .before in
+    let f = now (start .args .file) in
+    let n = start .args .n in
+    let s = start .args .s in
+    let v = start .args .v in
+    let k = start .args .entries in
+    let is = start .pre .0 in (
+      accepted f n s v k is,
+      start-ready f n s v k is _ (c .before .before .before .before .before .before .start .ensures),
+      rw (tail-given, length-drop) (rest-there f n s v k is _ (c .before .before .before .before .before .before .start .ensures) _ (start .pre .1) _ (c .before .before .before .lay-head .ensures)),
+      omega (arith, entry-count f n s v k is, few-entries f n s v k is),
+    )
 
 lay-head-requires-2 : tie.Need-lay-head-requires-2
 lay-head-requires-2 c κs = search needs
@@ -45,10 +57,17 @@ same-length : tie.Need-same-length
 same-length c = search needs
 
 returns : tie.Need-returns
-returns c = (
-  last-is (now (c .before .before .before .before .before .before .before .before .before .before .before .before .before .before .before .before .before .before .args .file)) (c .before .before .before .before .before .before .before .before .before .before .before .before .before .before .before .before .before .before .args .n) (c .before .before .before .before .before .before .before .before .before .before .before .before .before .before .before .before .before .before .args .s) (c .before .before .before .before .before .before .before .before .before .before .before .before .before .before .before .before .before .before .args .v) (c .before .before .before .before .before .before .before .before .before .before .before .before .before .before .before .before .before .before .args .entries) (c .before .before .before .before .before .before .before .before .before .before .before .before .before .before .before .before .before .before .pre .0) _ (c .before .before .before .before .before .before .before .before .before .before .before .before .before .before .before .start .ensures) _ (c .before .before .before .before .before .before .before .before .before .before .before .before .before .before .before .before .before .before .pre .1) _ (c .before .before .before .before .before .before .before .before .before .before .before .before .lay-head .ensures) _ (c .before .before .before .before .before .before .before .before .play-blocks .ensures .0) _ (c .before .before .before .before .before .before .before .before .play-blocks .ensures .1),
-  log-is (now (c .before .before .before .before .before .before .before .before .before .before .before .before .before .before .before .before .before .before .args .file)) (c .before .before .before .before .before .before .before .before .before .before .before .before .before .before .before .before .before .before .args .n) (c .before .before .before .before .before .before .before .before .before .before .before .before .before .before .before .before .before .before .args .s) (c .before .before .before .before .before .before .before .before .before .before .before .before .before .before .before .before .before .before .args .v) (c .before .before .before .before .before .before .before .before .before .before .before .before .before .before .before .before .before .before .args .entries) (c .before .before .before .before .before .before .before .before .before .before .before .before .before .before .before .before .before .before .pre .0) _ (c .before .before .before .before .before .before .before .before .before .before .before .before .before .before .before .start .ensures) _ (c .before .before .before .before .before .before .before .before .before .before .before .before .before .before .before .before .before .before .pre .1) _ (c .before .before .before .before .before .before .before .before .before .before .before .before .lay-head .ensures) _ (c .before .before .before .before .before .before .before .before .play-blocks .ensures .0) _ (c .before .before .before .before .before .before .before .before .play-blocks .ensures .1) _ (c .before .before .lay-head2 .ensures),
-)
+returns c =
+    let start = c .before .before .before .before .before .before .before .before .before .before .before .before .before .before .before .before .before .before in
+    let f = now (start .args .file) in
+    let n = start .args .n in
+    let s = start .args .s in
+    let v = start .args .v in
+    let k = start .args .entries in
+    let is = start .pre .0 in (
+      last-is f n s v k is _ (c .before .before .before .before .before .before .before .before .before .before .before .before .before .before .before .start .ensures) _ (start .pre .1) _ (c .before .before .before .before .before .before .before .before .before .before .before .before .lay-head .ensures) _ (c .before .before .before .before .before .before .before .before .play-blocks .ensures .0) _ (c .before .before .before .before .before .before .before .before .play-blocks .ensures .1),
+      log-is f n s v k is _ (c .before .before .before .before .before .before .before .before .before .before .before .before .before .before .before .start .ensures) _ (start .pre .1) _ (c .before .before .before .before .before .before .before .before .before .before .before .before .lay-head .ensures) _ (c .before .before .before .before .before .before .before .before .play-blocks .ensures .0) _ (c .before .before .before .before .before .before .before .before .play-blocks .ensures .1) _ (c .before .before .lay-head2 .ensures),
+    )
 
 pub run-entries-spec : {M : Type 1} → statement M
 run-entries-spec =
@@ -61,7 +80,6 @@ run-entries-spec =
     part-play-blocks-start
     part-play-blocks-end
     play-blocks-requires
-    cast-changes
     lay-head-requires-2
     same-length
     returns)

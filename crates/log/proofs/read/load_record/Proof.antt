@@ -3,7 +3,7 @@
 use borrow.Author.Needs.{needs}
 use denote.Ref.{now}
 use Rattle.log.specs.Log.{noteIn}
-use Rattle.log.proofs.Back.{eight-of-fours}
+use Rattle.numbers.proofs.Bytes.{number-split}
 use Rattle.log.proofs.read.load_record.Statement.{statement}
 use Rattle.log.proofs.read.load_record.Tie as tie
 
@@ -41,7 +41,7 @@ returns : tie.Need-returns
 unfolding noteIn
 returns c =
     let part = now (c .before .before .before .before .before .before .before .args .part) in
-    rw (c .before .read-four .ensures, c .read-four2 .ensures, eight-of-fours part 4)
+    rw (c .before .read-four .ensures, c .read-four2 .ensures, ← number-split part 4 4 4)
 
 pub load-record-spec : {M : Type 1} → statement M
 load-record-spec =

@@ -25,7 +25,7 @@ unfolding headOf
 returns-2 c =
     let a = c .before .before .args in
     let short : length (now (a .log)) < 12 = omega (arith, c .if1 .left) in
-    sym (laid-short (headOf (a .entries) (a .changes) (a .n)) (now (a .log)) short)
+    sym (laid-short (headOf (a .entries) (a .changes .0) (a .n)) (now (a .log)) short)
 
 pub lay-head-spec : {M : Type 1} → statement M
 lay-head-spec = tie.close (tie.spec store-head-requires same-length returns returns-2)

@@ -74,7 +74,7 @@ same-length c = simp length-set
 
 returns : tie.Need-returns
 unfolding headOf
-returns c = stored (headOf (c .args .entries) (c .args .changes) (c .args .n)) (now (c .args .log)) (c .pre)
+returns c = stored (headOf (c .args .entries) (c .args .changes .0) (c .args .n)) (now (c .args .log)) (c .pre)
 
 pub store-head-spec : {M : Type 1} → statement M
 store-head-spec =

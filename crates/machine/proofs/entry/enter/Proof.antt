@@ -1,8 +1,9 @@
--- What the entry leaves of the parts, put back, is the state after it: `entered-parts`.
+-- What the entry leaves of the parts, put back, is the state after it.
 -- Assumes nothing.
 use borrow.Author.Needs.{needs}
-use mathlib.Core.Path.{refl, sym}
-use Rattle.machine.proofs.EntryByParts.{entered-parts}
+use Prim.Native.Nat.{_<_}
+use native.Mathlib.Omega.{arith}
+use Rattle.machine.specs.Entry.{entered}
 use Rattle.machine.proofs.entry.enter.Statement.{statement}
 use Rattle.machine.proofs.entry.enter.Tie as tie
 
@@ -16,19 +17,23 @@ row-given-requires : tie.Need-row-given-requires
 row-given-requires c κs = search needs
 
 mul-row : tie.Need-mul-row
-mul-row c = search needs
+mul-row c =
+    let l : c .row-given .result .0 < 16 = rw (c .row-given .ensures) (c .before .before .before .before .pre .1) in
+    omega arith
 
 element-copy-out-row : tie.Need-element-copy-out-row
-element-copy-out-row c = search needs
+element-copy-out-row c = rw (c .row-given .ensures) (c .before .before .before .before .pre .1)
 
-kind-parts-requires : tie.Need-kind-parts-requires
-kind-parts-requires c κs = search needs
+parts-after-requires : tie.Need-parts-after-requires
+parts-after-requires c κs = search needs
 
 mul-written : tie.Need-mul-written
-mul-written c = search needs
+mul-written c =
+    let l : c .before .before .before .before .before .row-given .result .0 < 16 = rw (c .before .before .before .before .before .row-given .ensures) (c .before .before .before .before .before .before .before .before .before .pre .1) in
+    omega arith
 
 element-set-from-written : tie.Need-element-set-from-written
-element-set-from-written c = search needs
+element-set-from-written c = rw (c .before .before .before .before .before .row-given .ensures) (c .before .before .before .before .before .before .before .before .before .pre .1)
 
 mul-left : tie.Need-mul-left
 mul-left c = search needs
@@ -37,10 +42,8 @@ element-set-from-left : tie.Need-element-set-from-left
 element-set-from-left c = search needs
 
 returns : tie.Need-returns
-returns c =
-    let a = c .before .before .before .before .before .before .before .before .before .args in
-    rw (c .before .before .before .kind-parts .ensures, c .before .before .before .before .before .row-given .ensures)
-    (sym (entered-parts (a .t1) (a .p) (a .kind) _ refl))
+unfolding entered
+returns c = rw (c .before .before .before .parts-after .ensures, c .before .before .before .before .before .row-given .ensures)
 
 pub enter-spec : {M : Type 1} → statement M
 enter-spec =
@@ -51,7 +54,7 @@ enter-spec =
     row-given-requires
     mul-row
     element-copy-out-row
-    kind-parts-requires
+    parts-after-requires
     mul-written
     element-set-from-written
     mul-left

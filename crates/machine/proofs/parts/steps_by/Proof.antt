@@ -1,7 +1,7 @@
 -- Only a step that was taken counts.
 -- Assumes nothing.
-use borrow.Author.Needs.{needs}
 use borrow.Author.Tests.{le-leb, lt-leb}
+use borrow.Author.Needs.{needs}
 use Rattle.machine.proofs.parts.steps_by.Statement.{statement}
 use Rattle.machine.proofs.parts.steps_by.Tie as tie
 
@@ -17,39 +17,16 @@ enum-told c = search needs
 enum-told-2 : tie.Need-enum-told-2
 enum-told-2 c = search needs
 
-enum-told-3 : tie.Need-enum-told-3
-enum-told-3 c = search needs
-
-enum-told-4 : tie.Need-enum-told-4
-enum-told-4 c = search needs
-
 returns : tie.Need-returns
 returns c = rw (c .enum-told .given .1)
 
 returns-2 : tie.Need-returns-2
-returns-2 c = rw (c .enum-told2 .given .1)
+returns-2 c = rw (c .before .enum-told2 .given .1, ← c .before .before .before .before .tell .ensures, le-leb _ _ (c .if1 .taken))
 
 returns-3 : tie.Need-returns-3
-returns-3 c = rw (c .enum-told3 .given .1)
-
-returns-4 : tie.Need-returns-4
-returns-4 c = rw (c .before .enum-told4 .given .1, ← c .before .before .before .before .tell .ensures, le-leb _ _ (c .if1 .taken))
-
-returns-5 : tie.Need-returns-5
-returns-5 c = rw (c .before .enum-told4 .given .1, ← c .before .before .before .before .tell .ensures, lt-leb _ _ (c .if1 .left)) (c .before .before .before .own-steps .ensures)
+returns-3 c = rw (c .before .enum-told2 .given .1, ← c .before .before .before .before .tell .ensures, lt-leb _ _ (c .if1 .left)) (c .before .before .before .own-steps .ensures)
 
 pub steps-by-spec : {M : Type 1} → statement M
 steps-by-spec =
     tie.close
-    (tie.spec
-    tell-requires
-    own-steps-requires
-    enum-told
-    enum-told-2
-    enum-told-3
-    enum-told-4
-    returns
-    returns-2
-    returns-3
-    returns-4
-    returns-5)
+    (tie.spec tell-requires own-steps-requires enum-told enum-told-2 returns returns-2 returns-3)

@@ -3,7 +3,7 @@
 use borrow.Author.Needs.{needs}
 use mathlib.Core.Path.{_∙_, sym}
 use Rattle.machine.specs.State.{sound}
-use Rattle.machine.proofs.Soundness.{range-of}
+use Rattle.numbers.proofs.Range.{range-of}
 use Rattle.machine.proofs.sound.is_sound.Statement.{statement}
 use Rattle.machine.proofs.sound.is_sound.Tie as tie
 

@@ -1,10 +1,6 @@
 -- From 1 on, k - 1 is at most s exactly if k is at most s + 1.
 -- Assumes nothing.
 use borrow.Author.Needs.{needs}
-use borrow.Author.Tests.{lt-leb}
-use mathlib.Core.Path.{ap}
-use mathlib.Core.Bool.{_&&_}
-use native.Mathlib.Omega.{arith}
 use Rattle.machine.proofs.Tests.{next-range}
 use Rattle.machine.proofs.sound.next_is_sound.Statement.{statement}
 use Rattle.machine.proofs.sound.next_is_sound.Tie as tie

@@ -5,7 +5,8 @@ use Prim.Native.Nat.{ℕ, _≤_, _-_}
 use mathlib.Core.Path.{_≡_, refl, ap, _∙_}
 use native.Mathlib.Numerals.{add-one}
 use native.Mathlib.Omega.{arith}
-use Rattle.machine.specs.State.{allBelow, soundProcess}
+use Rattle.numbers.specs.Below.{allBelow}
+use Rattle.machine.specs.State.{soundProcess}
 use Rattle.machine.proofs.sound.processes_are_sound.Statement.{statement}
 use Rattle.machine.proofs.sound.processes_are_sound.Tie as tie
 
@@ -16,7 +17,6 @@ abbrev μ-loop : tie.MeasureT-loop
 μ-loop st n s ok₀ p₀ ok p = n - p
 
 loop-holds : tie.Need-loop-holds Inv-loop μ-loop
-unfolding allBelow
 loop-holds c = (omega arith, omega arith, refl)
 
 mul-own : tie.Need-mul-own Inv-loop μ-loop
@@ -44,7 +44,6 @@ loop-less : tie.Need-loop-less Inv-loop μ-loop
 loop-less c = omega arith
 
 loop-again : tie.Need-loop-again Inv-loop μ-loop
-unfolding allBelow
 loop-again c = (
   omega arith,
   omega arith,

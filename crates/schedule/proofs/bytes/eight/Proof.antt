@@ -1,7 +1,7 @@
 -- `schedule::bytes::eight` meets its contract: a number of eight bytes is made of two of four.
 -- Assumes nothing.
 use denote.Ref.{now}
-use Rattle.schedule.proofs.Laws.{number-split}
+use Rattle.numbers.proofs.Bytes.{number-split}
 use borrow.Author.Needs.{needs}
 use Rattle.schedule.proofs.bytes.eight.Statement.{statement}
 use Rattle.schedule.proofs.bytes.eight.Tie as tie

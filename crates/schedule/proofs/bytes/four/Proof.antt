@@ -2,7 +2,7 @@
 -- Assumes nothing.
 use native.Mathlib.Omega.{arith}
 use denote.Ref.{now}
-use Rattle.schedule.proofs.Laws.{number-split}
+use Rattle.numbers.proofs.Bytes.{number-split}
 use borrow.Author.Needs.{needs}
 use Rattle.schedule.proofs.bytes.four.Statement.{statement}
 use Rattle.schedule.proofs.bytes.four.Tie as tie

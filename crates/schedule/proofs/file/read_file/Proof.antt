@@ -10,7 +10,7 @@ use native.Mathlib.Omega.{arith}
 use borrow.Author.Tests.{eq-eqb, ne-eqb}
 use lib.ListN.{length}
 use denote.Ref.{now}
-use Rattle.schedule.specs.Block0.{headNumber}
+use Rattle.schedule.specs.Block0.{firstNumber}
 use Rattle.schedule.specs.File.{lengthFine, blockAt, blocksAfter, reading}
 use Rattle.schedule.proofs.Laws.{part-length}
 use Rattle.schedule.proofs.Accepted.{length-blocks}
@@ -30,10 +30,10 @@ whole c =
     let blocks = length-blocks (length (file (c .before))) (fine (c .before)) .0 in
     rw (c .block-of .ensures) (part-length (file (c .before)) 0 512 (omega arith))
 
-number-is : (c : tie.After-head-number) → c .head-number .result ≡ headNumber (blockAt (file (c .before .before)) 0) (blocksAfter (file (c .before .before)))
+number-is : (c : tie.After-first-number) → c .first-number .result ≡ firstNumber (blockAt (file (c .before .before)) 0) (blocksAfter (file (c .before .before)))
 number-is c =
-    c .head-number .ensures
-    ∙ ap (λ (b : List ℕ). headNumber b (blocksAfter (file (c .before .before)))) (c .before .block-of .ensures)
+    c .first-number .ensures
+    ∙ ap (λ (b : List ℕ). firstNumber b (blocksAfter (file (c .before .before)))) (c .before .block-of .ensures)
 
 length-fine-requires : tie.Need-length-fine-requires
 length-fine-requires c κs = search needs
@@ -44,8 +44,8 @@ sub-after c = omega (arith, length-blocks (length (file c)) (fine c) .0)
 block-of-requires : tie.Need-block-of-requires
 block-of-requires c κs = search needs
 
-head-number-requires : tie.Need-head-number-requires
-head-number-requires c κs = whole c
+first-number-requires : tie.Need-first-number-requires
+first-number-requires c κs = whole c
 
 returns : tie.Need-returns
 unfolding reading
@@ -81,7 +81,7 @@ read-file-spec =
     length-fine-requires
     sub-after
     block-of-requires
-    head-number-requires
+    first-number-requires
     returns
     shared-slice-read-n
     four-requires

@@ -32,19 +32,22 @@ meaning-requires c κs =
     let a = c .before .before .before .args in
     rw (add-sub-cancel-left (12 * a .j) 12) (part-length (now (a .part)) (12 * a .j) 12 (omega arith))
 
+no-entry-requires : tie.Need-no-entry-requires
+no-entry-requires c κs = search needs
+
 returns : tie.Need-returns
 unfolding entryAt
 returns c =
     let a = c .before .before .before .before .args in
-    rw (le-leb (12 * a .j + 12) (length (now (a .part))) (omega arith), c .meaning .ensures, add-sub-cancel-left (12 * a .j) 12)
+    (rw (le-leb (12 * a .j + 12) (length (now (a .part))) (omega arith), c .meaning .ensures .0, add-sub-cancel-left (12 * a .j) 12), c .meaning .ensures .1)
 
 returns-2 : tie.Need-returns-2
 unfolding entryAt
 returns-2 c =
-    let a = c .before .before .args in
-    rw (lt-leb (12 * a .j + 12) (length (now (a .part))) (omega arith))
+    let a = c .before .before .before .args in
+    (rw (lt-leb (12 * a .j + 12) (length (now (a .part))) (omega arith)) (c .no-entry .ensures), rw (c .no-entry .ensures) (omega arith))
 
 pub entry-at-spec : {M : Type 1} → statement M
 entry-at-spec =
     tie.close
-    (tie.spec mul-at add-end sub-e part-e-start part-e-end meaning-requires returns returns-2)
+    (tie.spec mul-at add-end sub-e part-e-start part-e-end meaning-requires no-entry-requires returns returns-2)

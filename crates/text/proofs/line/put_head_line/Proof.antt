@@ -1,8 +1,9 @@
 -- Three words and three numbers, one behind the other.
 -- Assumes nothing.
 use borrow.Author.Needs.{needs}
-use Rattle.text.specs.Lines.{headLine}
-use Rattle.text.proofs.Pieces.{put-more}
+use denote.Ref.{now}
+use Rattle.text.specs.Lines.{bytesIn, field, space, newline, headLine}
+use Rattle.text.proofs.Pieces.{piece, whole, put-more}
 use Rattle.text.proofs.line.put_head_line.Statement.{statement}
 use Rattle.text.proofs.line.put_head_line.Tie as tie
 
@@ -45,10 +46,14 @@ returns c =
     let word2 = field2 .before .before .before .before in
     let field1 = word2 .before .before .before .before .before in
     let word1 = field1 .before .before .before .before in
-    put-more (word1 .put-word .ensures)
-    (put-more (field1 .put-field .ensures .0)
-    (put-more (word2 .put-word2 .ensures)
-    (put-more (field2 .put-field2 .ensures .0) (put-more (word3 .put-word3 .ensures) (last .put-field3 .ensures .0)))))
+    let a = word1 .before .before .before .before .args in
+    whole
+    (put-more (piece (bytesIn "entries ") (now (a .out)) _ (word1 .put-word .ensures))
+    (put-more (piece (field (a .entries) space) _ _ (field1 .put-field .ensures .0))
+    (put-more (piece (bytesIn "changes ") _ _ (word2 .put-word2 .ensures))
+    (put-more (piece (field (a .changes) space) _ _ (field2 .put-field2 .ensures .0))
+    (put-more (piece (bytesIn "processes ") _ _ (word3 .put-word3 .ensures))
+    (piece (field (a .n) newline) _ _ (last .put-field3 .ensures .0)))))))
 
 pub put-head-line-spec : {M : Type 1} → statement M
 put-head-line-spec =

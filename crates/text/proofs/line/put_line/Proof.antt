@@ -1,8 +1,8 @@
 -- Six numbers, one behind the other.
 -- Assumes nothing.
 use borrow.Author.Needs.{needs}
-use Rattle.text.specs.Lines.{lineOf}
-use Rattle.text.proofs.Pieces.{put-more}
+use Rattle.text.specs.Lines.{field, space, newline, lineOf}
+use Rattle.text.proofs.Pieces.{piece, whole, put-more}
 use Rattle.text.proofs.line.put_line.Statement.{statement}
 use Rattle.text.proofs.line.put_line.Tie as tie
 
@@ -48,10 +48,14 @@ returns c =
     let field3 = field4 .before .before .before .before in
     let field2 = field3 .before .before .before .before in
     let field1 = field2 .before .before .before .before in
-    put-more (field1 .put-field .ensures .0)
-    (put-more (field2 .put-field2 .ensures .0)
-    (put-more (field3 .put-field3 .ensures .0)
-    (put-more (field4 .put-field4 .ensures .0) (put-more (field5 .put-field5 .ensures .0) (last .put-field6 .ensures .0)))))
+    let a = field1 .before .before .before .before .before .before .before .args in
+    whole
+    (put-more (piece (field (a .place) space) _ _ (field1 .put-field .ensures .0))
+    (put-more (piece (field (a .note .process) space) _ _ (field2 .put-field2 .ensures .0))
+    (put-more (piece (field (a .note .outcome) space) _ _ (field3 .put-field3 .ensures .0))
+    (put-more (piece (field (a .note .steps) space) _ _ (field4 .put-field4 .ensures .0))
+    (put-more (piece (field (a .note .mark) space) _ _ (field5 .put-field5 .ensures .0))
+    (piece (field (a .note .value) newline) _ _ (last .put-field6 .ensures .0)))))))
 
 pub put-line-spec : {M : Type 1} → statement M
 put-line-spec =

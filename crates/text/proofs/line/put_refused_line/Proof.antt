@@ -1,8 +1,9 @@
 -- Two words and two numbers, one behind the other.
 -- Assumes nothing.
 use borrow.Author.Needs.{needs}
-use Rattle.text.specs.Lines.{refusedLine}
-use Rattle.text.proofs.Pieces.{put-more}
+use denote.Ref.{now}
+use Rattle.text.specs.Lines.{bytesIn, field, space, newline, refusedLine}
+use Rattle.text.proofs.Pieces.{piece, whole, put-more}
 use Rattle.text.proofs.line.put_refused_line.Statement.{statement}
 use Rattle.text.proofs.line.put_refused_line.Tie as tie
 
@@ -34,7 +35,12 @@ returns c =
     let word2 = last .before .before .before .before in
     let field1 = word2 .before .before .before .before .before in
     let word1 = field1 .before .before .before .before in
-    put-more (word1 .put-word .ensures) (put-more (field1 .put-field .ensures .0) (put-more (word2 .put-word2 .ensures) (last .put-field2 .ensures .0)))
+    let a = word1 .before .before .before .before .args in
+    whole
+    (put-more (piece (bytesIn "refused ") (now (a .out)) _ (word1 .put-word .ensures))
+    (put-more (piece (field (a .number) space) _ _ (field1 .put-field .ensures .0))
+    (put-more (piece (bytesIn "block ") _ _ (word2 .put-word2 .ensures))
+    (piece (field (a .block) newline) _ _ (last .put-field2 .ensures .0)))))
 
 pub put-refused-line-spec : {M : Type 1} → statement M
 put-refused-line-spec =

@@ -18,7 +18,7 @@ same-length c = search needs
 returns : tie.Need-returns
 returns c =
     let a = c .before .before .before .before .before .before .args in
-    line-printed (omega (arith, c .before .before .before .before .if1 .taken)) (head-line-fits (a .entries) (a .changes) (a .n)) (c .before .before .put-head-line .ensures)
+    line-printed (headLine (a .entries) (a .changes) (a .n)) (now (a .out)) (omega (arith, c .before .before .before .before .if1 .taken)) (head-line-fits (a .entries) (a .changes) (a .n)) (c .before .before .put-head-line .ensures)
 
 returns-2 : tie.Need-returns-2
 returns-2 c =

@@ -18,7 +18,7 @@ same-length c = search needs
 returns : tie.Need-returns
 returns c =
     let a = c .before .before .before .before .before .before .args in
-    line-printed (omega (arith, c .before .before .before .before .if1 .taken)) (line-fits (a .place) (a .note)) (c .before .before .put-line .ensures)
+    line-printed (lineOf (a .place) (a .note)) (now (a .out)) (omega (arith, c .before .before .before .before .if1 .taken)) (line-fits (a .place) (a .note)) (c .before .before .put-line .ensures)
 
 returns-2 : tie.Need-returns-2
 returns-2 c =

@@ -5,7 +5,7 @@ use denote.Ref.{now}
 use native.Mathlib.Omega.{arith}
 use Rattle.text.specs.Decimal.{decimalOf}
 use Rattle.text.proofs.Fits.{number-fits}
-use Rattle.text.proofs.Pieces.{line-printed, line-refused}
+use Rattle.text.proofs.Pieces.{piece, whole, line-printed, line-refused}
 use Rattle.text.proofs.line.write_number.Statement.{statement}
 use Rattle.text.proofs.line.write_number.Tie as tie
 
@@ -18,7 +18,7 @@ same-length c = search needs
 returns : tie.Need-returns
 returns c =
     let a = c .before .before .before .before .before .before .args in
-    line-printed (omega (arith, c .before .before .before .before .if1 .taken)) (number-fits (a .n)) (c .before .before .put-number .ensures)
+    line-printed (decimalOf (a .n)) (now (a .out)) (omega (arith, c .before .before .before .before .if1 .taken)) (number-fits (a .n)) (whole (piece (decimalOf (a .n)) _ _ (c .before .before .put-number .ensures)))
 
 returns-2 : tie.Need-returns-2
 returns-2 c =

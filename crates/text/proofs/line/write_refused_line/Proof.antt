@@ -18,7 +18,7 @@ same-length c = search needs
 returns : tie.Need-returns
 returns c =
     let a = c .before .before .before .before .before .before .args in
-    line-printed (omega (arith, c .before .before .before .before .if1 .taken)) (refused-line-fits (a .number) (a .block)) (c .before .before .put-refused-line .ensures)
+    line-printed (refusedLine (a .number) (a .block)) (now (a .out)) (omega (arith, c .before .before .before .before .if1 .taken)) (refused-line-fits (a .number) (a .block)) (c .before .before .put-refused-line .ensures)
 
 returns-2 : tie.Need-returns-2
 returns-2 c =

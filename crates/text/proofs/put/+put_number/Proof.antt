@@ -1,14 +1,14 @@
 -- A number below 10 is one digit. Any other is the digits of a tenth of it, which the call of itself stores, and one more behind them.
 -- The measure is the number. Assumes nothing.
-use Prim.Native.Nat.{ℕ, _+_, _/_, _≤_, _<_, _^_}
-use mathlib.Core.Path.{_≡_, _∙_}
+use Prim.Native.Nat.{ℕ, _+_, _/_, _%_, _≤_, _<_}
+use mathlib.Core.Path.{_∙_}
+use mathlib.Core.List.{[], _∷_}
 use native.Mathlib.Omega.{arith}
-use lib.ListN.{length}
 use borrow.Fn.Kinds.{In}
 use borrow.Fn.PlainCycle.{Measures, is, falls, and}
 use Rattle.text.specs.Decimal.{decimalOf}
 use Rattle.text.proofs.Digits.{decimal-first, decimal-first-length, decimal-more, decimal-more-length}
-use Rattle.text.proofs.Pieces.{put-more}
+use Rattle.text.proofs.Pieces.{piece, pieces, put-more}
 use Rattle.text.proofs.put.put_number.Reads as put-number
 use Rattle.text.proofs.put.put_number.Kinds as put-number-kinds
 use Rattle.text.proofs.put.+put_number.Lts-put_number as put-number-lts
@@ -77,7 +77,7 @@ put-number-put-byte-requires-2 t c κs =
     omega (
       arith,
       s .pre .1,
-      c .before .before .before .put-number .ensures .place,
+      c .before .before .before .put-number .ensures .0,
       c .before .before .before .put-number .kept .0,
       decimal-more-length (s .args .n) big (omega (arith, s .fits .n)),
     )
@@ -119,7 +119,10 @@ put-number-returns-2 t c =
     let s = c .before .before .before .before .before .before .before .before .before .before in
     let big : 10 ≤ s .args .n = omega (arith, c .before .before .before .before .before .before .before .before .if1 .left) in
     rw (decimal-more (s .args .n) big (omega (arith, s .fits .n)))
-    (put-more (c .before .before .before .before .before .before .put-number .ensures) (c .before .before .put-byte2 .ensures))
+    (pieces
+    (put-more
+    (piece (decimalOf (s .args .n / 10)) _ _ (c .before .before .before .before .before .before .put-number .ensures))
+    (piece ((48 + s .args .n % 10) ∷ []) _ _ (c .before .before .put-byte2 .ensures))))
 
 pub +put-number-spec : {M : Type 1} → statement M
 +put-number-spec = close μ-put-number λ t. put-number-lts.spec (

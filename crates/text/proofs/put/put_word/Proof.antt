@@ -1,14 +1,11 @@
 -- After i turns the first i bytes of the word are stored, and the place is i further on.
 -- Assumes nothing.
-use Prim.Native.Nat.{ℕ, _+_, _-_, _≤_}
-use mathlib.Core.Path.{_≡_, refl, sym, ap, _∙_}
-use native.Mathlib.Nat.{add-zero}
+use Prim.Native.Nat.{_+_, _-_, _≤_}
+use mathlib.Core.Path.{refl}
 use native.Mathlib.Omega.{arith}
 use lib.ListN.{length, take}
-use lib.Seq.{take-length}
 use denote.Ref.{now}
-use Rattle.text.specs.Put.{Put}
-use Rattle.text.proofs.Pieces.{put-next, put-length, put-whole}
+use Rattle.text.proofs.Pieces.{Put, pieces, put-next, put-length, put-whole}
 use Rattle.text.proofs.put.put_word.Statement.{statement}
 use Rattle.text.proofs.put.put_word.Tie as tie
 
@@ -48,7 +45,7 @@ same-length : tie.Need-same-length Inv-loop μ-loop
 same-length c = put-length (c .before .loop .inv .1)
 
 returns : tie.Need-returns Inv-loop μ-loop
-returns c = put-whole _ _ _ _ _ (omega arith) (c .before .loop .inv .1)
+returns c = pieces (put-whole _ _ _ _ _ (omega arith) (c .before .loop .inv .1))
 
 pub put-word-spec : {M : Type 1} → statement M
 put-word-spec =

@@ -1,0 +1,3 @@
+pub mod Range
+pub mod Below
+pub mod Bytes

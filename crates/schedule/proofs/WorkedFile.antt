@@ -1,0 +1,13 @@
+-- The file of document 01's full run, by computation.
+-- Assumes nothing.
+use mathlib.Core.Path.{refl}
+use Rattle.schedule.specs.Bytes.{zerosOf}
+use Rattle.schedule.specs.Check.{checkOf}
+use Rattle.schedule.specs.Block0.{firstNumber}
+use Rattle.schedule.specs.Later.{meant, laterNumber, blockEntries}
+use Rattle.schedule.specs.File.{entriesTo, inTurn, reading}
+use Rattle.schedule.specs.WorkedFile.{workedFile, workedEntries, FullRun}
+
+pub full-run : FullRun
+unfolding zerosOf checkOf firstNumber meant laterNumber blockEntries entriesTo inTurn reading workedFile workedEntries
+full-run = record { first-check = refl; later-check = refl; accepted = refl; entries = refl; refused = refl }

@@ -1,0 +1,49 @@
+-- Document 01's full run as a file, and what the definitions say of it.
+use mathlib.Core.Path.{_≡_}
+use mathlib.Core.List.{List, [], _∷_, _++_}
+use Prim.Native.Nat.{ℕ, _-_}
+use lib.ListN.{length, replicate}
+use Rattle.step.specs.declared.Entry.{Entry}
+use Rattle.step.specs.declared.Kind.the-variants.{Ask, Step}
+use Rattle.step.specs.declared.Request.the-variants.{Load, Store, Check}
+use Rattle.schedule.specs.Check.{checkOf}
+use Rattle.schedule.specs.Later.{entryBy}
+use Rattle.schedule.specs.File.{blockAt, fileEntries, reading}
+use Rattle.schedule.specs.declared.Reading.the-variants.{Refused, Accepted}
+
+-- a block: its first bytes, zeros up to byte 509, and the two bytes of its check
+abbrev block : List ℕ → ℕ → ℕ → List ℕ
+block first low high = first ++ replicate (510 - length first) 0 ++ (low ∷ high ∷ [])
+
+-- an entry that stores nothing
+abbrev plain : ℕ → ℕ → List ℕ
+plain kind process = kind ∷ process ∷ replicate 10 0
+
+-- "Input: N 2, S 9, V 7, one entry block: LL by 1, three steps of 1, SC 40 by 1, four steps of 1, VL by 0, one step of 0. The
+-- checks are 131 and 5,426.": the file, with the low byte of block 0's check left open
+unfoldable pub workedFile : ℕ → List ℕ
+workedFile low =
+    block (0 ∷ 0 ∷ 2 ∷ 0 ∷ 9 ∷ 0 ∷ 0 ∷ 0 ∷ 7 ∷ 0 ∷ 0 ∷ 0 ∷ 0 ∷ 0 ∷ 0 ∷ 0 ∷ 1 ∷ 0 ∷ []) low 0
+    ++ block
+    ((1 ∷ 0 ∷ 11 ∷ 0 ∷ [])
+    ++ plain 1 1 ++ plain 4 1 ++ plain 4 1 ++ plain 4 1
+    ++ (2 ∷ 1 ∷ 0 ∷ 0 ∷ 40 ∷ 0 ∷ 0 ∷ 0 ∷ 0 ∷ 0 ∷ 0 ∷ 0 ∷ [])
+    ++ plain 4 1 ++ plain 4 1 ++ plain 4 1 ++ plain 4 1
+    ++ plain 3 0 ++ plain 4 0)
+    50 21
+
+-- its entries
+unfoldable pub workedEntries : List Entry
+workedEntries =
+    entryBy 1 (Ask Load) ∷ entryBy 1 Step ∷ entryBy 1 Step ∷ entryBy 1 Step
+    ∷ entryBy 1 (Ask (Store 40)) ∷ entryBy 1 Step ∷ entryBy 1 Step ∷ entryBy 1 Step ∷ entryBy 1 Step
+    ∷ entryBy 0 (Ask Check) ∷ entryBy 0 Step ∷ []
+
+-- the two checks; that the file is accepted with N 2, S 9, V 7 and its 11 entries; and that "the check 132 in the run above gives
+-- 2, block 0"
+pub record FullRun : Type 0 where
+  pub first-check : checkOf (blockAt (workedFile 131) 0) ≡ 131
+  pub later-check : checkOf (blockAt (workedFile 131) 1) ≡ 5426
+  pub accepted : reading (workedFile 131) ≡ Accepted 2 9 7 11
+  pub entries : fileEntries (workedFile 131) ≡ workedEntries
+  pub refused : reading (workedFile 132) ≡ Refused 2 0

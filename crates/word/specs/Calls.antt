@@ -1,0 +1,126 @@
+-- The calls of a run, read off what came of its entries one after another, whichever machine it was. Time is counted in places of the
+-- run: its first entry has place 0.
+-- Assumes nothing.
+use Prim.Native.Nat.{ℕ, suc}
+use mathlib.Core.Bool.{Bool, true, false, cond, _&&_}
+use mathlib.Core.List.{List, [], _∷_, _++_}
+use lib.Dec.{eqb}
+use Rattle.word.specs.Word.{Op, load, store, check, Answer, value, done, notDone, saysYes, saysNo, put}
+use Rattle.word.specs.Order.{Call}
+
+-- What came of an entry: a request of process p on word w was taken; a step of p was taken and its call goes on; a step of p answered its
+-- call; or the entry was turned away ("Refused entries are not calls").
+pub data Item (A : Type 0) : Type 0 where
+  asks : (p w : ℕ) → Op A → Item A
+  goes : (p : ℕ) → Item A
+  answers : (p : ℕ) → Answer A → Item A
+  away : Item A
+
+-- An answered call: the place of its answer and of its request, its process and word, what was asked, the process's own steps since
+-- the request with this one, and the answer.
+pub record Reply (A : Type 0) : Type 0 where
+  pub place : ℕ
+  pub asked : ℕ
+  pub process : ℕ
+  pub word : ℕ
+  pub op : Op A
+  pub steps : ℕ
+  pub answer : Answer A
+
+-- What is known before the entry at place `now`: for each process the place of its latest request, its word, what it asked, and the own
+-- steps since; the calls to be played; and the replies.
+pub record Calls (A : Type 0) : Type 0 where
+  pub now : ℕ
+  pub asked : ℕ → ℕ
+  pub word : ℕ → ℕ
+  pub op : ℕ → Op A
+  pub steps : ℕ → ℕ
+  pub played : List (Call A)
+  pub replies : List (Reply A)
+
+module _ {A : Type 0} where
+  abbrev pub isStore : Op A → Bool
+  isStore load = false
+  isStore (store v) = true
+  isStore check = false
+
+  abbrev pub isDone : Answer A → Bool
+  isDone (value v) = false
+  isDone done = true
+  isDone notDone = false
+  isDone saysYes = false
+  isDone saysNo = false
+
+  abbrev pub noCalls : Calls A
+  noCalls = record { now = 0; asked = λ p. 0; word = λ p. 0; op = λ p. load; steps = λ p. 0; played = []; replies = [] }
+
+  -- p's call, decided now; p's reply now
+  abbrev pub callBy : Calls A → ℕ → Answer A → Call A
+  callBy c p a = record { asked = c .asked p; decided = c .now; process = p; word = c .word p; op = c .op p; answer = a }
+
+  abbrev pub replyBy : Calls A → ℕ → Answer A → Reply A
+  replyBy c p a =
+      record { place = c .now; asked = c .asked p; process = p; word = c .word p; op = c .op p; steps = suc (c .steps p); answer = a }
+
+  -- "An unanswered SC that has passed step 8 with success is played as a success": a store is done where its own step d goes on. Step 8
+  -- is a store's second own step, so d is 2 for document 01's machine.
+  abbrev pub decides : ℕ → Calls A → ℕ → Bool
+  decides d c p = isStore (c .op p) && eqb (suc (c .steps p)) d
+
+  abbrev pub decidesIn : ℕ → Calls A → Item A → Bool
+  decidesIn d c (asks p w o) = false
+  decidesIn d c (goes p) = decides d c p
+  decidesIn d c (answers p a) = false
+  decidesIn d c away = false
+
+  -- One item. Every call but such a store is decided by the step that answers it; "other unanswered calls are not played".
+  abbrev pub goOn : ℕ → Calls A → Item A → Calls A
+  goOn d c (asks p w o) =
+      record {
+        now = suc (c .now);
+        asked = put p (c .now) (c .asked);
+        word = put p w (c .word);
+        op = put p o (c .op);
+        steps = put p 0 (c .steps);
+        played = c .played;
+        replies = c .replies;
+      }
+  goOn d c (goes p) =
+      record {
+        now = suc (c .now);
+        asked = c .asked;
+        word = c .word;
+        op = c .op;
+        steps = put p (suc (c .steps p)) (c .steps);
+        played = cond (decides d c p) (c .played ++ callBy c p done ∷ []) (c .played);
+        replies = c .replies;
+      }
+  goOn d c (answers p a) =
+      record {
+        now = suc (c .now);
+        asked = c .asked;
+        word = c .word;
+        op = c .op;
+        steps = put p (suc (c .steps p)) (c .steps);
+        played = cond (isDone a) (c .played) (c .played ++ callBy c p a ∷ []);
+        replies = c .replies ++ replyBy c p a ∷ [];
+      }
+  goOn d c away =
+      record {
+        now = suc (c .now);
+        asked = c .asked;
+        word = c .word;
+        op = c .op;
+        steps = c .steps;
+        played = c .played;
+        replies = c .replies;
+      }
+
+  unfoldable pub callsFrom : ℕ → Calls A → List (Item A) → Calls A
+  callsFrom d c [] = c
+  callsFrom d c (i ∷ is) = callsFrom d (goOn d c i) is
+
+  -- how many of the calls are stores that were done
+  abbrev pub doneCount : List (Call A) → ℕ
+  doneCount [] = 0
+  doneCount (c ∷ cs) = cond (isDone (c .answer)) (suc (doneCount cs)) (doneCount cs)
