@@ -8,7 +8,7 @@ use native.Mathlib.Omega.{arith}
 use native.Mathlib.Decide.{decLe}
 use lib.ListN.{length, take, drop, length-append, length-drop, length-map}
 use lib.Seq.{take-at, drop-at, drop-drop}
-use Rattle.step.specs.declared.Entry.{Entry}
+use Rattle.bench.specs.Types.{Entry, Played}
 use Rattle.machine.specs.Frame.{Ready}
 use Rattle.machine.specs.Run.{notes, after, changeCount}
 use Rattle.machine.proofs.RunLaws.{ready-after, after-append, notes-append, notes-length, count-append, count-most}
@@ -20,7 +20,6 @@ use Rattle.schedule.proofs.Accepted.{accepted-room}
 use Rattle.log.specs.Log.{recordsOf}
 use Rattle.log.proofs.Laws.{records-length, records-append, tail-given, tail-back}
 use Rattle.bench.specs.Play.{inLog, partEntries, playedFrom, recordsFrom}
-use Rattle.bench.specs.declared.Played.{Played}
 
 -- A run that goes on is one run.
 pub played-append : (from : Played) (es fs : List Entry) → playedFrom (playedFrom from es) fs ≡ playedFrom from (es ++ fs)

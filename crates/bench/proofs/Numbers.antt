@@ -10,12 +10,10 @@ use Rattle.schedule.specs.Check.{checkFine, placeFine}
 use Rattle.schedule.specs.Block0.{firstFine, firstNumber}
 use Rattle.schedule.specs.Later.{laterFine, laterNumber}
 use Rattle.schedule.specs.File.{lengthFine, blockAt, blocksAfter, found, inTurn, acceptedAs, reading}
-use Rattle.schedule.specs.declared.Reading.{Reading}
-use Rattle.schedule.specs.declared.Reading.the-variants.{Refused, Accepted}
+use Rattle.bench.specs.Types.{Reading, Refused, Accepted, Ran}
 use Rattle.schedule.proofs.Accepted.{length-blocks}
 use Rattle.log.specs.Log.{logLength}
 use Rattle.bench.specs.Bench.{ranBy, ranOf, lastState, ranNot}
-use Rattle.bench.specs.declared.Ran.{Ran}
 
 abbrev Low : Reading → Type 0
 Low (Refused n k) = (n ≤ 5) × (k ≤ 127)

@@ -7,23 +7,14 @@ use native.Mathlib.Numerals.{add-one}
 use native.Mathlib.Omega.{arith}
 use lib.Dec.{ltb}
 use lib.ListN.{length, take, drop, length-append, length-drop, length-map}
-use Rattle.numbers.specs.declared.Process.{Process}
-use Rattle.numbers.specs.declared.Sequence.{Sequence}
-use Rattle.numbers.specs.declared.Version.{Version}
+use Rattle.bench.specs.Types.{Process, Sequence, Version, Entry, Kind, Ask, Step, Stepped, Outcome, State, Answer}
 use Rattle.numbers.proofs.Below.{listed-length}
 use Rattle.step.specs.Number.{sameTag}
 use Rattle.step.specs.Outcomes.{toldOf}
-use Rattle.step.specs.declared.Entry.{Entry}
-use Rattle.step.specs.declared.Kind.{Kind}
-use Rattle.step.specs.declared.Kind.the-variants.{Ask, Step}
-use Rattle.step.specs.declared.Stepped.{Stepped}
-use Rattle.step.specs.declared.Outcome.{Outcome}
 use Rattle.machine.specs.State.{rowAt, recordAt}
 use Rattle.machine.specs.Entry.{rowGiven, withEntry, seatOf, playedParts}
 use Rattle.machine.specs.Frame.{Ready}
 use Rattle.machine.specs.Run.{Note, played, noteOf, notes, after, changeCount, stepsBy}
-use Rattle.machine.specs.declared.State.{State}
-use Rattle.machine.specs.declared.Answer.{Answer}
 use Rattle.machine.proofs.RunLaws.{ready-after, after-append, notes-append, count-append, size-kept, notes-length, count-most}
 use Rattle.machine.proofs.PartsOfRun.{seat, given, played-by-parts, seat-within, given-within}
 use Rattle.schedule.specs.Later.{entryAt}

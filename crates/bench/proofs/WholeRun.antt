@@ -10,17 +10,14 @@ use Rattle.numbers.specs.Range.{inRange}
 use Rattle.machine.specs.Opening.{firstState, zeroState, startOf}
 use Rattle.machine.specs.Frame.{Ready}
 use Rattle.machine.specs.Run.{Note, notes, changeCount}
-use Rattle.machine.specs.declared.Started.{Started}
-use Rattle.machine.specs.declared.Start.{Start}
+use Rattle.bench.specs.Types.{Started, Start, Accepted, Played}
 use Rattle.machine.proofs.RunLaws.{ready-start, notes-length, count-most}
 use Rattle.schedule.specs.File.{fileEntries, reading, isAccepted}
-use Rattle.schedule.specs.declared.Reading.the-variants.{Accepted}
 use Rattle.schedule.proofs.Accepted.{accepted-answer, accepted-bound, accepted-start}
 use Rattle.log.specs.Log.{laid, headOf, recordsOf, logLength}
 use Rattle.log.proofs.Laws.{head-length, laid-fits, tail-given, tail-back}
 use Rattle.bench.specs.Play.{inLog, playedFrom, recordsFrom}
 use Rattle.bench.specs.Bench.{startState, notesOf, lastState, written}
-use Rattle.bench.specs.declared.Played.{Played}
 
 module _ (f : List ℕ) (n s v c : ℕ) (is : reading f ≡ Accepted n s v c) where
   pub accepted : isAccepted (reading f) ≡ true

@@ -5,14 +5,11 @@ use mathlib.Core.List.{List, _++_, map}
 use lib.Dec.{leb}
 use lib.ListN.{length, drop}
 use Rattle.schedule.specs.File.{reading, fileEntries}
-use Rattle.schedule.specs.declared.Reading.{Reading}
-use Rattle.schedule.specs.declared.Reading.the-variants.{Refused, Accepted}
+use Rattle.bench.specs.Types.{Reading, Refused, Accepted, State, Ran}
 use Rattle.machine.specs.Opening.{startOf, zeroState}
 use Rattle.machine.specs.Run.{Note, notes, after, changeCount}
-use Rattle.machine.specs.declared.State.{State}
 use Rattle.log.specs.Log.{headOf, recordsOf, logLength}
 use Rattle.bench.specs.Play.{inLog}
-use Rattle.bench.specs.declared.Ran.{Ran}
 
 -- the state that a file's run starts from: the start of its N, S and V
 abbrev pub startState : ℕ → ℕ → ℕ → State

@@ -4,16 +4,11 @@ use mathlib.Core.List.{List, _++_, map}
 use lib.ListN.{length, drop}
 use Rattle.numbers.specs.Below.{listBelow}
 use Rattle.step.specs.Outcomes.{toldOf}
-use Rattle.step.specs.declared.Entry.{Entry}
-use Rattle.step.specs.declared.Kind.{Kind}
-use Rattle.step.specs.declared.Place.{Place}
-use Rattle.step.specs.declared.Outcome.{Outcome}
+use Rattle.bench.specs.Types.{Entry, Kind, Place, Outcome, Note, Played}
 use Rattle.machine.specs.Run.{stepsBy, notes, after, changeCount}
 use Rattle.machine.specs.Run as machine
 use Rattle.schedule.specs.Later.{entryAt}
 use Rattle.log.specs.Log.{recordsOf}
-use Rattle.log.specs.declared.Note.{Note}
-use Rattle.bench.specs.declared.Played.{Played}
 
 -- "in order: outcome, process, own steps of this call so far with this one .., mark, value"
 abbrev pub inLog : machine.Note → Note

@@ -4,8 +4,7 @@
 use Prim.Native.Nat.{ℕ}
 use mathlib.Core.Path.{_≡_, refl}
 use mathlib.Core.List.{List, [], _∷_, _++_, map}
-use Rattle.step.specs.declared.Kind.the-variants.{Ask, Step}
-use Rattle.step.specs.declared.Request.the-variants.{Load, Store, Check}
+use Rattle.linear.specs.Types.{Ask, Step, Load, Store, Check}
 use Rattle.machine.specs.Table.{Line, asks, goes, gives, saysNo, away, LL, SCtwo, SC, SCfails, behind}
 use Rattle.bench.specs.Play.{inLog}
 use Rattle.word.specs.Word.{Op, load, store, check, Answer, value, done, notDone}

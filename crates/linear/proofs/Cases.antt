@@ -8,28 +8,14 @@ use native.Mathlib.Omega.{arith}
 use lib.Dec.{eqb, leb}
 use lib.IntN.{pos, _-ℤ_}
 use borrow.Author.Tests.{eqb-true, eq-eqb}
-use Rattle.numbers.specs.declared.Process.{Process}
+use Rattle.linear.specs.Types.{Process, Tag, Row, Record, Kind, Ask, Step, Request, Load, Store, Check, Requested, Place, Idle, Load1, Load2, Load3, Load5, Store7, Store8, Store9, Store10, Check14, Outcome, Taken, GoesOn, Current, Old, Done, NotDone, Yes, No, NoProcess, CallOpen, UsedUp, NoCall, State, Answer}
 use Rattle.step.specs.Number.{isNear, sameTag, withOld}
 use Rattle.step.specs.Steps.{at, withSlot, withOldValue, answered, goesOn}
 use Rattle.step.specs.Requests.{requestOf, whenIdle, idle, begun, notTaken}
-use Rattle.step.specs.declared.Tag.{Tag}
-use Rattle.step.specs.declared.Row.{Row}
-use Rattle.step.specs.declared.Record.{Record}
-use Rattle.step.specs.declared.Kind.{Kind}
-use Rattle.step.specs.declared.Kind.the-variants.{Ask, Step}
-use Rattle.step.specs.declared.Request.{Request}
-use Rattle.step.specs.declared.Request.the-variants.{Load, Store, Check}
-use Rattle.step.specs.declared.Requested.{Requested}
-use Rattle.step.specs.declared.Place.{Place}
-use Rattle.step.specs.declared.Place.the-variants.{Idle, Load1, Load2, Load3, Load5, Store7, Store8, Store9, Store10, Check14}
-use Rattle.step.specs.declared.Outcome.{Outcome}
-use Rattle.step.specs.declared.Outcome.the-variants.{Taken, GoesOn, Current, Old, Done, NotDone, Yes, No, NoProcess, CallOpen, UsedUp, NoCall}
 use Rattle.machine.specs.State.{rowAt, recordAt}
 use Rattle.machine.specs.Entry.{withParts, refused, called}
 use Rattle.machine.specs.Frame.{Ready}
 use Rattle.machine.specs.Run.{turnedAway, changes}
-use Rattle.machine.specs.declared.State.{State}
-use Rattle.machine.specs.declared.Answer.{Answer}
 use Rattle.machine.proofs.Tests.{and-left, and-right, and-both}
 use Rattle.machine.proofs.Refusals.{refusal-same}
 use Rattle.linear.proofs.Invariant.{slotOf}

@@ -9,13 +9,9 @@ use native.Mathlib.Decide.{ℕ-discrete, decLt}
 use lib.Dec.{eqb}
 use borrow.Author.Tests.{eqb-true, eq-eqb, ne-eqb}
 use Rattle.step.specs.Number.{sameTag}
-use Rattle.step.specs.declared.Tag.{Tag}
-use Rattle.step.specs.declared.Row.{Row}
-use Rattle.step.specs.declared.Place.{Place}
-use Rattle.step.specs.declared.Place.the-variants.{Idle, Load1, Load2, Load3, Load5, Store7, Store8, Store9, Store10, Check14}
+use Rattle.linear.specs.Types.{Tag, Row, Place, Idle, Load1, Load2, Load3, Load5, Store7, Store8, Store9, Store10, Check14, State}
 use Rattle.machine.proofs.Tests.{and-left, and-right, and-both}
 use Rattle.machine.specs.State.{rowAt, recordAt}
-use Rattle.machine.specs.declared.State.{State}
 use Rattle.word.specs.Word.{Link, none, at, linked}
 use Rattle.linear.proofs.History.{Change, At, Sorted, Held, Same, at-below, at-order, at-value, at-same}
 use Rattle.linear.proofs.Invariant.{gap, ext, slotOf, oldUp, olds, KeptTag, Stage, One, OneAt, Inv}

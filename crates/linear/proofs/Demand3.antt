@@ -8,12 +8,10 @@ use mathlib.Core.List.{List, [], _∷_, map, Perm·symm}
 use native.Mathlib.Omega.{arith}
 use native.Mathlib.Bridge.{le-prop}
 use Rattle.numbers.specs.Range.{inRange}
-use Rattle.numbers.specs.declared.Sequence.{Sequence}
-use Rattle.step.specs.declared.Entry.{Entry}
+use Rattle.linear.specs.Types.{Sequence, Entry, State}
 use Rattle.machine.specs.Opening.{firstState}
 use Rattle.machine.specs.Frame.{Ready}
 use Rattle.machine.specs.Run.{Note, played, noteOf, after, notes, changeCount, changes}
-use Rattle.machine.specs.declared.State.{State}
 use Rattle.machine.proofs.RunLaws.{ready-start, ready-played}
 use Rattle.bench.specs.Play.{inLog}
 use Rattle.log.specs.declared.Note as log

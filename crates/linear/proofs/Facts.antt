@@ -8,15 +8,12 @@ use native.Mathlib.Omega.{arith}
 use lib.IntN.{pos, _-ℤ_}
 use lib.Signed.{leZ, ltZ}
 use Rattle.step.specs.Number.{isNear, sameTag}
-use Rattle.numbers.specs.declared.Sequence.{Sequence}
-use Rattle.step.specs.declared.Place.the-variants.{Load5}
+use Rattle.linear.specs.Types.{Sequence, Load5, Entry, State}
 use Rattle.numbers.specs.Range.{inRange}
 use Rattle.machine.specs.State.{rowAt, recordAt}
 use Rattle.machine.specs.Opening.{firstState}
-use Rattle.step.specs.declared.Entry.{Entry}
 use Rattle.machine.specs.Frame.{Ready}
 use Rattle.machine.specs.Run.{after}
-use Rattle.machine.specs.declared.State.{State}
 use Rattle.machine.proofs.Soundness.{sure}
 use Rattle.machine.proofs.RunLaws.{ready-start, ready-after, size-kept}
 use Rattle.linear.proofs.Lift.{not-two-below, near-is-below}

@@ -10,12 +10,8 @@ use mathlib.Core.List.{List, [], _∷_, _++_}
 use native.Mathlib.Omega.{arith}
 use Rattle.step.specs.Number.{sameTag}
 use Rattle.step.specs.Steps.{at}
-use Rattle.step.specs.declared.Row.{Row}
-use Rattle.step.specs.declared.Record.{Record}
-use Rattle.step.specs.declared.Place.{Place}
-use Rattle.step.specs.declared.Place.the-variants.{Idle, Store9}
+use Rattle.linear.specs.Types.{Row, Record, Place, Idle, Store9, State}
 use Rattle.machine.specs.State.{rowAt, recordAt}
-use Rattle.machine.specs.declared.State.{State}
 use Rattle.word.specs.Word.{Link, Op, load, store, Answer, value, done, notDone, put, linked, answerOf, first}
 use Rattle.word.specs.Word as word
 use Rattle.word.specs.Order.{Call}

@@ -13,13 +13,8 @@ use lib.ListN.{getD}
 use lib.Seq.{getD-set-other}
 use Rattle.step.specs.Number.{isNear, isOld, withOld}
 use Rattle.step.specs.Steps.{at, withSlot, withOldValue}
-use Rattle.step.specs.declared.Tag.{Tag}
-use Rattle.step.specs.declared.Row.{Row}
-use Rattle.step.specs.declared.Record.{Record}
-use Rattle.step.specs.declared.Place.{Place}
-use Rattle.step.specs.declared.Place.the-variants.{Idle, Load1, Load2, Load3, Load5, Store7, Store8, Store9, Store10, Check14}
+use Rattle.linear.specs.Types.{Tag, Row, Record, Place, Idle, Load1, Load2, Load3, Load5, Store7, Store8, Store9, Store10, Check14, State}
 use Rattle.machine.specs.State.{rowAt, recordAt}
-use Rattle.machine.specs.declared.State.{State}
 use Rattle.word.specs.Word.{Link, none, put}
 use Rattle.word.specs.Word as word
 use Rattle.word.proofs.Put.{split, put-same, put-other}

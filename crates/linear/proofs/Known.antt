@@ -10,23 +10,13 @@ use native.Mathlib.Omega.{arith}
 use lib.Dec.{eqb}
 use Rattle.numbers.specs.Range.{inRange}
 use Rattle.numbers.proofs.Range.{range-of}
-use Rattle.numbers.specs.declared.Process.{Process}
-use Rattle.numbers.specs.declared.Sequence.{Sequence}
+use Rattle.linear.specs.Types.{Process, Sequence, Row, Record, Kind, Step, Place, Idle, Load1, Load2, Load3, Load5, Store7, Store8, Store9, Store10, Check14, Outcome, GoesOn, State}
 use Rattle.step.specs.Steps.{ownSteps}
-use Rattle.step.specs.declared.Row.{Row}
-use Rattle.step.specs.declared.Record.{Record}
-use Rattle.step.specs.declared.Kind.{Kind}
-use Rattle.step.specs.declared.Kind.the-variants.{Step}
-use Rattle.step.specs.declared.Place.{Place}
-use Rattle.step.specs.declared.Place.the-variants.{Idle, Load1, Load2, Load3, Load5, Store7, Store8, Store9, Store10, Check14}
-use Rattle.step.specs.declared.Outcome.{Outcome}
-use Rattle.step.specs.declared.Outcome.the-variants.{GoesOn}
 use Rattle.machine.specs.State.{recordAt}
 use Rattle.machine.specs.Opening.{firstState}
 use Rattle.machine.specs.Entry.{called}
 use Rattle.machine.specs.Frame.{Ready}
 use Rattle.machine.specs.Run.{turnedAway, changes}
-use Rattle.machine.specs.declared.State.{State}
 use Rattle.word.specs.Word.{Op, load, store, check, Answer, value, done, notDone, saysYes, saysNo, put}
 use Rattle.word.specs.Order.{Call}
 use Rattle.word.specs.Calls.{Item, away, Reply, Calls, isStore, noCalls, callBy, decides, decidesIn, goOn}

@@ -7,26 +7,15 @@ use mathlib.Core.Bool.{Bool, true, false, cond}
 use native.Mathlib.Omega.{arith}
 use lib.Dec.{leb, ltb}
 use borrow.Author.Tests.{lt-ltb, ltb-true, le-leb}
-use Rattle.numbers.specs.declared.Process.{Process}
+use Rattle.linear.specs.Types.{Process, Row, Record, Kind, Ask, Step, Request, Place, Idle, Load1, Load2, Load3, Load5, Store7, Store8, Store9, Store10, Check14, Stepped, NoProcess, State, Answer}
 use Rattle.numbers.proofs.Range.{range-of}
 use Rattle.step.specs.Number.{isNear, sameTag}
 use Rattle.step.specs.Steps.{stepAt, stepOf, reachedAt, largestNext}
 use Rattle.step.specs.Requests.{requestOf}
 use Rattle.step.proofs.Reach.{either-way}
-use Rattle.step.specs.declared.Row.{Row}
-use Rattle.step.specs.declared.Record.{Record}
-use Rattle.step.specs.declared.Kind.{Kind}
-use Rattle.step.specs.declared.Kind.the-variants.{Ask, Step}
-use Rattle.step.specs.declared.Request.{Request}
-use Rattle.step.specs.declared.Place.{Place}
-use Rattle.step.specs.declared.Place.the-variants.{Idle, Load1, Load2, Load3, Load5, Store7, Store8, Store9, Store10, Check14}
-use Rattle.step.specs.declared.Stepped.{Stepped}
-use Rattle.step.specs.declared.Outcome.the-variants.{NoProcess}
 use Rattle.machine.specs.State.{rowAt, recordAt}
 use Rattle.machine.specs.Entry.{withParts, withEntry, refused, entered, called}
 use Rattle.machine.specs.Frame.{Frame, Ready}
-use Rattle.machine.specs.declared.State.{State}
-use Rattle.machine.specs.declared.Answer.{Answer}
 use Rattle.machine.proofs.Soundness.{sure}
 use Rattle.machine.proofs.Writers.{row-same, row-kept, record-same}
 use Rattle.machine.proofs.Frame.{frame}

@@ -7,16 +7,9 @@ use native.Mathlib.Omega.{arith}
 use lib.Dec.{leb}
 use lib.ListN.{List·getD-eq-default}
 use borrow.Author.Tests.{leb-true, ne-eqb}
-use Rattle.numbers.specs.declared.Process.{Process}
+use Rattle.linear.specs.Types.{Process, Entry, Kind, Ask, Step, Outcome, Taken, GoesOn, Current, Old, Done, NotDone, Yes, No, NoProcess, CallOpen, UsedUp, NoCall, Unsound, State, Note}
 use Rattle.step.specs.Outcomes.{toldOf}
-use Rattle.step.specs.declared.Entry.{Entry}
-use Rattle.step.specs.declared.Kind.{Kind}
-use Rattle.step.specs.declared.Kind.the-variants.{Ask, Step}
-use Rattle.step.specs.declared.Outcome.{Outcome}
-use Rattle.step.specs.declared.Outcome.the-variants.{Taken, GoesOn, Current, Old, Done, NotDone, Yes, No, NoProcess, CallOpen, UsedUp, NoCall, Unsound}
 use Rattle.machine.specs.Run.{turnedAway, stepsOf}
-use Rattle.machine.specs.declared.State.{State}
-use Rattle.log.specs.declared.Note.{Note}
 use Rattle.word.specs.Calls.{Item, away}
 use Rattle.linear.specs.Demand3.{stepItems, itemBy}
 

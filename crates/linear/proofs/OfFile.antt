@@ -12,10 +12,9 @@ use Rattle.machine.specs.Opening.{firstState}
 use Rattle.machine.proofs.RunLaws.{notes-length, count-most}
 use Rattle.machine.proofs.Values.{values-below}
 use Rattle.schedule.specs.File.{reading, fileEntries}
-use Rattle.schedule.specs.declared.Reading.the-variants.{Accepted}
+use Rattle.linear.specs.Types.{Accepted, Head}
 use Rattle.schedule.proofs.Accepted.{accepted-answer}
 use Rattle.log.specs.Log.{headOf, recordsOf, logOf, logLength, headIn, notesIn}
-use Rattle.log.specs.declared.Head.{Head}
 use Rattle.log.specs.declared.Note as log
 use Rattle.log.proofs.Back.{head-in, notes-back}
 use Rattle.bench.specs.Play.{inLog}

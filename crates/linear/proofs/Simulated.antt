@@ -13,22 +13,14 @@ use borrow.Author.Tests.{ne-eqb}
 use lib.Seq.{getD-set-same}
 use Rattle.numbers.specs.Range.{inRange}
 use Rattle.numbers.proofs.Range.{range-of}
-use Rattle.numbers.specs.declared.Process.{Process}
-use Rattle.numbers.specs.declared.Sequence.{Sequence}
+use Rattle.linear.specs.Types.{Process, Sequence, Kind, Step, Place, Idle, Load1, Load3, Load5, Store7, Store8, Check14, Outcome, GoesOn, State}
 use Rattle.step.specs.Number.{sameTag}
 use Rattle.step.specs.Steps.{at, withSlot}
-use Rattle.step.specs.declared.Kind.{Kind}
-use Rattle.step.specs.declared.Kind.the-variants.{Step}
-use Rattle.step.specs.declared.Place.{Place}
-use Rattle.step.specs.declared.Place.the-variants.{Idle, Load1, Load3, Load5, Store7, Store8, Check14}
-use Rattle.step.specs.declared.Outcome.{Outcome}
-use Rattle.step.specs.declared.Outcome.the-variants.{GoesOn}
 use Rattle.machine.specs.State.{rowAt, recordAt}
 use Rattle.machine.specs.Opening.{firstState}
 use Rattle.machine.specs.Entry.{called}
 use Rattle.machine.specs.Frame.{Ready}
 use Rattle.machine.specs.Run.{turnedAway, changes}
-use Rattle.machine.specs.declared.State.{State}
 use Rattle.machine.proofs.Soundness.{sure}
 use Rattle.word.specs.Word.{none, Op, load, store, check, Answer, value, done, notDone, saysYes, saysNo, put, linked}
 use Rattle.word.specs.Word as word

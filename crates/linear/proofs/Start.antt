@@ -8,10 +8,7 @@ use mathlib.Core.List.{[], _∷_}
 use native.Mathlib.Omega.{arith}
 use lib.IntN.{pos, negsuc}
 use lib.ListN.{getD-replicate}
-use Rattle.numbers.specs.declared.Sequence.{Sequence}
-use Rattle.step.specs.declared.Row.{Row}
-use Rattle.step.specs.declared.Record.{Record}
-use Rattle.step.specs.declared.Place.the-variants.{Idle}
+use Rattle.linear.specs.Types.{Sequence, Row, Record, Idle}
 use Rattle.numbers.specs.Range.{inRange}
 use Rattle.machine.specs.State.{rowAt, recordAt, noRow, noRecord}
 use Rattle.machine.specs.Opening.{firstRow, firstRecord, firstState}

@@ -11,9 +11,7 @@ use lib.ListN.{length, getD, take, drop, length-take, List·getD-eq-default}
 use lib.Seq.{getD-take, getD-drop}
 use Rattle.numbers.specs.Below.{listBelow}
 use Rattle.numbers.proofs.Bytes.{number-below}
-use Rattle.step.specs.declared.Entry.{Entry}
-use Rattle.step.specs.declared.Kind.the-variants.{Ask, Step}
-use Rattle.step.specs.declared.Request.the-variants.{Load, Store, Check}
+use Rattle.linear.specs.Types.{Entry, Ask, Step, Load, Store, Check}
 use Rattle.machine.proofs.Values.{SmallKind, SmallEntries}
 use Rattle.schedule.specs.Block0.{startV}
 use Rattle.schedule.specs.Later.{kind, process, value, entryBy, noEntry, meant, count, entryBytes, blockEntries}

@@ -8,12 +8,7 @@ use mathlib.Core.Logic.{_⊎_}
 use mathlib.Core.List.{List, [], _∷_}
 use lib.Dec.{eqb}
 use lib.ListN.{getD}
-use Rattle.step.specs.declared.Entry.{Entry}
-use Rattle.step.specs.declared.Kind.{Kind}
-use Rattle.step.specs.declared.Kind.the-variants.{Ask, Step}
-use Rattle.step.specs.declared.Request.{Request}
-use Rattle.step.specs.declared.Request.the-variants.{Load, Store, Check}
-use Rattle.log.specs.declared.Note.{Note}
+use Rattle.linear.specs.Types.{Entry, Kind, Ask, Step, Request, Load, Store, Check, Note}
 use Rattle.word.specs.Word.{Op, load, store, check, Answer, value, done, notDone, saysYes, saysNo}
 use Rattle.word.specs.Calls.{Item, asks, goes, answers, away, Calls, isStore, noCalls, goOn, callsFrom, doneCount}
 use Rattle.word.specs.OneOrder.{OneOrder}

@@ -5,7 +5,7 @@ use mathlib.Core.Path.{_≡_}
 use mathlib.Core.Bool.{Bool, true, false, cond, _&&_}
 use mathlib.Core.List.{List, [], _∷_}
 use lib.Dec.{eqb}
-use Rattle.step.specs.declared.Entry.{Entry}
+use Rattle.linear.specs.Types.{Entry}
 use Rattle.machine.specs.Run.{Note}
 use Rattle.bench.specs.Play.{inLog}
 use Rattle.word.specs.Word.{Link, none, at, Op, load, store, check, value, done, notDone, saysYes, saysNo, put, linked}

@@ -5,7 +5,7 @@ use mathlib.Core.Path.{_≡_}
 use mathlib.Core.List.{List}
 use lib.ListN.{length}
 use Rattle.schedule.specs.File.{reading, fileEntries}
-use Rattle.schedule.specs.declared.Reading.the-variants.{Accepted}
+use Rattle.linear.specs.Types.{Accepted}
 use Rattle.log.specs.Log.{logLength, headIn, notesIn}
 use Rattle.bench.specs.Bench.{logAfter}
 use Rattle.word.specs.Order.{Every}

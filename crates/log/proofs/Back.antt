@@ -12,9 +12,7 @@ use Rattle.numbers.specs.Bytes.{bytesOf, numberAt}
 use Rattle.numbers.proofs.Below.{same-below, listed-all}
 use Rattle.numbers.proofs.Bytes.{number-back}
 use Rattle.log.specs.Log.{headOf, recordOf, recordsOf, logOf, logLength, headIn, noteIn, notesIn, headFound, noteFound}
-use Rattle.log.specs.declared.HeadFound.the-variants.{Laid}
-use Rattle.log.specs.declared.Note.{Note}
-use Rattle.log.specs.declared.NoteFound.the-variants.{Written}
+use Rattle.log.specs.Types.{Laid, Note, Written}
 use Rattle.log.proofs.Laws.{head-length, records-length, records-append, log-length}
 
 pub note-back : (note : Note) (behind : List ℕ) → note .value < 2 ^ 64 → noteIn (recordOf note ++ behind) ≡ note

@@ -6,12 +6,7 @@ use lib.Dec.{leb}
 use lib.ListN.{length, getD, drop}
 use Rattle.numbers.specs.Below.{listBelow}
 use Rattle.numbers.specs.Bytes.{bytesOf, numberAt}
-use Rattle.log.specs.declared.Head.{Head}
-use Rattle.log.specs.declared.HeadFound.{HeadFound}
-use Rattle.log.specs.declared.HeadFound.the-variants.{Laid, NoHead}
-use Rattle.log.specs.declared.Note.{Note}
-use Rattle.log.specs.declared.NoteFound.{NoteFound}
-use Rattle.log.specs.declared.NoteFound.the-variants.{Written, NoNote}
+use Rattle.log.specs.Types.{Head, HeadFound, Laid, NoHead, Note, NoteFound, Written, NoNote}
 
 -- "First 12 bytes: entry count (0 to 3), how often X has changed (4 to 7), N (8), three zeros."
 unfoldable pub headOf : ℕ → ℕ → ℕ → List ℕ

@@ -8,22 +8,11 @@ use native.Mathlib.Decide.{ℕ-discrete}
 use lib.Dec.{ltb}
 use lib.ListN.{length, length-set}
 use borrow.Author.Tests.{ltb-true}
-use Rattle.numbers.specs.declared.Process.{Process}
-use Rattle.numbers.specs.declared.Sequence.{Sequence}
+use Rattle.machine.specs.Types.{Process, Sequence, Tag, Row, Record, Kind, Ask, Step, Stepped, Outcome, NoProcess, Unsound, State, Answer}
 use Rattle.step.proofs.Reach.{others-row-kept, slots-kept}
-use Rattle.step.specs.declared.Tag.{Tag}
-use Rattle.step.specs.declared.Row.{Row}
-use Rattle.step.specs.declared.Record.{Record}
-use Rattle.step.specs.declared.Kind.{Kind}
-use Rattle.step.specs.declared.Kind.the-variants.{Ask, Step}
-use Rattle.step.specs.declared.Stepped.{Stepped}
-use Rattle.step.specs.declared.Outcome.{Outcome}
-use Rattle.step.specs.declared.Outcome.the-variants.{NoProcess, Unsound}
 use Rattle.machine.specs.State.{sound, rowAt, recordAt}
 use Rattle.machine.specs.Entry.{rowGiven, partsAfter, withEntry, refused, entered, called}
 use Rattle.machine.specs.Frame.{Frame, Full}
-use Rattle.machine.specs.declared.State.{State}
-use Rattle.machine.specs.declared.Answer.{Answer}
 use Rattle.machine.proofs.Writers.{row-other, row-kept, row-by, record-other}
 
 -- A call is turned away, or it is an entry of a process below N of a sound state: what holds of these holds of it.

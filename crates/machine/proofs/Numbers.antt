@@ -6,25 +6,15 @@ use native.Mathlib.Omega.{arith}
 use lib.Dec.{leb, ltb}
 use borrow.Author.Tests.{le-leb, ltb-true}
 use Rattle.numbers.proofs.Range.{range-of}
-use Rattle.numbers.specs.declared.Process.{Process}
+use Rattle.machine.specs.Types.{Process, Record, Place, Idle, Load1, Load2, Load3, Load5, Store7, Store8, Store9, Store10, Check14, Kind, Ask, Step, Request, Load, Store, Check, Outcome, Current, NotDone, Yes, No, NoProcess, CallOpen, UsedUp, Unsound, State}
 use Rattle.step.specs.Number.{isNear, sameTag}
 use Rattle.step.specs.Steps.{at, goesOn, answered, stepAt, stepOf, reachedAt, largestNext}
 use Rattle.step.specs.Requests.{requestOf, whenIdle, idle, begun, notTaken}
 use Rattle.step.specs.Outcomes.{toldOf}
-use Rattle.step.specs.declared.Record.{Record}
-use Rattle.step.specs.declared.Place.{Place}
-use Rattle.step.specs.declared.Place.the-variants.{Idle, Load1, Load2, Load3, Load5, Store7, Store8, Store9, Store10, Check14}
-use Rattle.step.specs.declared.Kind.{Kind}
-use Rattle.step.specs.declared.Kind.the-variants.{Ask, Step}
-use Rattle.step.specs.declared.Request.{Request}
-use Rattle.step.specs.declared.Request.the-variants.{Load, Store, Check}
-use Rattle.step.specs.declared.Outcome.{Outcome}
-use Rattle.step.specs.declared.Outcome.the-variants.{Current, NotDone, Yes, No, NoProcess, CallOpen, UsedUp, Unsound}
 use Rattle.machine.specs.State.{sound, rowAt, recordAt}
 use Rattle.machine.specs.Entry.{refused, entered, called}
 use Rattle.machine.specs.Run.{stepsBy, noteOf}
 use Rattle.machine.specs.Numbers.{Numbers, numbers, plain, ofRequest, ofStep, ofKind, numbersOf, numbersIn}
-use Rattle.machine.specs.declared.State.{State}
 use Rattle.machine.proofs.Soundness.{sound-of}
 
 -- what the log says of an outcome, by the place before the entry

@@ -6,16 +6,13 @@ use native.Mathlib.Omega.{arith}
 use lib.Dec.{ltb}
 use lib.Seq.{set-getD}
 use borrow.Author.Tests.{ltb-true}
-use Rattle.numbers.specs.declared.Process.{Process}
+use Rattle.machine.specs.Types.{Process, Entry, NoProcess, State}
 use Rattle.numbers.proofs.Range.{range-of}
 use Rattle.step.specs.Steps.{asWas}
-use Rattle.step.specs.declared.Entry.{Entry}
-use Rattle.step.specs.declared.Outcome.the-variants.{NoProcess}
 use Rattle.machine.specs.State.{rowAt, recordAt}
 use Rattle.machine.specs.Entry.{rowGiven, partsAfter, answerWith, refused, entered, seatOf, playedParts}
 use Rattle.machine.specs.Frame.{Ready}
 use Rattle.machine.specs.Run.{played}
-use Rattle.machine.specs.declared.State.{State}
 use Rattle.machine.proofs.Soundness.{given-below, sure}
 use Rattle.machine.proofs.RunLaws.{played-ready}
 

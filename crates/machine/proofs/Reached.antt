@@ -11,25 +11,15 @@ use lib.ListN.{length}
 use lib.Dec.{ltb}
 use borrow.Author.Tests.{ltb-true}
 use Rattle.numbers.proofs.Range.{range-of}
-use Rattle.numbers.specs.declared.Process.{Process}
+use Rattle.machine.specs.Types.{Process, Record, Row, Stepped, Place, Idle, Load1, Load2, Load3, Load5, Store7, Store8, Store9, Store10, Check14, Step, Entry, NoProcess, State, Answer}
 use Rattle.step.specs.Steps.{stepOf, reached}
 use Rattle.step.specs.Steps as step
 use Rattle.step.proofs.Reach as parts
 use Rattle.step.proofs.Reach.{SameParts}
-use Rattle.step.specs.declared.Record.{Record}
-use Rattle.step.specs.declared.Row.{Row}
-use Rattle.step.specs.declared.Stepped.{Stepped}
-use Rattle.step.specs.declared.Place.{Place}
-use Rattle.step.specs.declared.Place.the-variants.{Idle, Load1, Load2, Load3, Load5, Store7, Store8, Store9, Store10, Check14}
-use Rattle.step.specs.declared.Kind.the-variants.{Step}
-use Rattle.step.specs.declared.Entry.{Entry}
-use Rattle.step.specs.declared.Outcome.the-variants.{NoProcess}
 use Rattle.machine.specs.State.{rowAt, recordAt}
 use Rattle.machine.specs.Entry.{withEntry, answerWith, refused, entered, called}
 use Rattle.machine.specs.Frame.{Full, Ready}
 use Rattle.machine.specs.Registers.{Register, theX, slotOf, oldValueOf, oldNumberOf, holds, reachedAt, stepIsOn, AgreeOn, SameStep}
-use Rattle.machine.specs.declared.State.{State}
-use Rattle.machine.specs.declared.Answer.{Answer}
 use Rattle.machine.proofs.Soundness.{Sound, sure, sound-of, row-below}
 use Rattle.machine.proofs.Writers.{row-same, row-other, record-same}
 use Rattle.machine.proofs.Frame.{by-call}

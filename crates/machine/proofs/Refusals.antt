@@ -14,27 +14,12 @@ use Rattle.step.specs.Steps.{at, stepAt, stepOf, largestNext}
 use Rattle.step.specs.Requests.{requestOf, whenIdle, idle, begun, notTaken}
 use Rattle.step.specs.Outcomes.{toldOf}
 use Rattle.step.proofs.Reach.{either-way}
-use Rattle.numbers.specs.declared.Process.{Process}
-use Rattle.numbers.specs.declared.Sequence.{Sequence}
-use Rattle.step.specs.declared.Tag.{Tag}
-use Rattle.step.specs.declared.Row.{Row}
-use Rattle.step.specs.declared.Record.{Record}
-use Rattle.step.specs.declared.Place.{Place}
-use Rattle.step.specs.declared.Place.the-variants.{Idle, Load1, Load2, Load3, Load5, Store7, Store8, Store9, Store10, Check14}
-use Rattle.step.specs.declared.Request.{Request}
-use Rattle.step.specs.declared.Request.the-variants.{Load, Store, Check}
-use Rattle.step.specs.declared.Stepped.{Stepped}
-use Rattle.step.specs.declared.Outcome.{Outcome}
-use Rattle.step.specs.declared.Outcome.the-variants.{NoProcess, CallOpen, UsedUp, Yes, No}
+use Rattle.machine.specs.Types.{Process, Sequence, Tag, Row, Record, Place, Idle, Load1, Load2, Load3, Load5, Store7, Store8, Store9, Store10, Check14, Request, Load, Store, Check, Stepped, Outcome, NoProcess, CallOpen, UsedUp, Yes, No, Entry, State, Kind, Ask, Step}
 use Rattle.machine.specs.State.{rowAt, recordAt}
 use Rattle.machine.specs.Opening.{firstState}
 use Rattle.machine.specs.Entry.{partsAfter, refused, entered, called}
 use Rattle.machine.specs.Frame.{Ready}
-use Rattle.step.specs.declared.Entry.{Entry}
 use Rattle.machine.specs.Run.{Note, turnedAway, played, notes}
-use Rattle.machine.specs.declared.State.{State}
-use Rattle.step.specs.declared.Kind.{Kind}
-use Rattle.step.specs.declared.Kind.the-variants.{Ask, Step}
 use Rattle.machine.proofs.Soundness.{sure}
 use Rattle.machine.proofs.Frame.{by-call, given, left}
 use Rattle.machine.proofs.Writers.{all-kept}

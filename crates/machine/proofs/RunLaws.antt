@@ -6,16 +6,13 @@ use mathlib.Core.List.{List, [], _∷_, _++_}
 use native.Mathlib.Omega.{arith}
 use lib.Dec.{ltb}
 use lib.ListN.{length}
-use Rattle.numbers.specs.declared.Sequence.{Sequence}
-use Rattle.step.specs.declared.Outcome.the-variants.{NoProcess}
+use Rattle.machine.specs.Types.{Sequence, NoProcess, Entry, State}
 use Rattle.numbers.specs.Range.{inRange}
 use Rattle.machine.specs.State.{rowAt, recordAt}
 use Rattle.machine.specs.Opening.{firstState}
 use Rattle.machine.specs.Entry.{refused, entered, called}
 use Rattle.machine.specs.Frame.{Ready}
-use Rattle.step.specs.declared.Entry.{Entry}
 use Rattle.machine.specs.Run.{Note, played, noteOf, after, notes, changeCount}
-use Rattle.machine.specs.declared.State.{State}
 use Rattle.machine.proofs.Soundness.{sound-back, sure}
 use Rattle.machine.proofs.Frame.{full-kept, above-kept, frame}
 use Rattle.machine.proofs.SoundKept.{sound-kept, start-sound, start-full}

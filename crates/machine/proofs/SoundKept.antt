@@ -15,24 +15,11 @@ use Rattle.step.specs.Number.{isOld, isNear, sameTag}
 use Rattle.step.specs.Steps.{stepAt, stepOf, largestNext}
 use Rattle.step.specs.Requests.{requestOf, whenIdle, idle, begun, notTaken}
 use Rattle.step.proofs.Reach.{either-way}
-use Rattle.numbers.specs.declared.Process.{Process}
-use Rattle.numbers.specs.declared.Sequence.{Sequence}
-use Rattle.step.specs.declared.Tag.{Tag}
-use Rattle.step.specs.declared.Row.{Row}
-use Rattle.step.specs.declared.Record.{Record}
-use Rattle.step.specs.declared.Place.{Place}
-use Rattle.step.specs.declared.Place.the-variants.{Idle, Load1, Load2, Load3, Load5, Store7, Store8, Store9, Store10, Check14}
-use Rattle.step.specs.declared.Request.{Request}
-use Rattle.step.specs.declared.Request.the-variants.{Load, Store, Check}
-use Rattle.step.specs.declared.Outcome.the-variants.{CallOpen, UsedUp}
-use Rattle.step.specs.declared.Stepped.{Stepped}
+use Rattle.machine.specs.Types.{Process, Sequence, Tag, Row, Record, Place, Idle, Load1, Load2, Load3, Load5, Store7, Store8, Store9, Store10, Check14, Request, Load, Store, Check, CallOpen, UsedUp, Stepped, State, Kind, Ask, Step}
 use Rattle.machine.specs.State.{storing, rowAt, recordAt, noRow, noRecord}
 use Rattle.machine.specs.Opening.{firstRow, firstRecord, firstState}
 use Rattle.machine.specs.Entry.{partsAfter, entered, called}
 use Rattle.machine.specs.Frame.{Full}
-use Rattle.machine.specs.declared.State.{State}
-use Rattle.step.specs.declared.Kind.{Kind}
-use Rattle.step.specs.declared.Kind.the-variants.{Ask, Step}
 use Rattle.machine.proofs.Soundness.{SoundTag, SoundParts, Sound, given-below}
 use Rattle.machine.proofs.Frame.{by-call, given, left}
 use Rattle.machine.proofs.Writers.{row-by, record-by}

@@ -11,19 +11,10 @@ use Rattle.numbers.proofs.Range.{range-of}
 use Rattle.numbers.proofs.Below.{all-at, all-intro}
 use Rattle.step.specs.Number.{isOld}
 use Rattle.step.specs.Steps.{reached, reachedAt}
-use Rattle.numbers.specs.declared.Process.{Process}
-use Rattle.numbers.specs.declared.Sequence.{Sequence}
-use Rattle.step.specs.declared.Tag.{Tag}
-use Rattle.step.specs.declared.Row.{Row}
-use Rattle.step.specs.declared.Record.{Record}
-use Rattle.step.specs.declared.Place.{Place}
-use Rattle.step.specs.declared.Place.the-variants.{Idle, Load1, Load2, Load3, Load5, Store7, Store8, Store9, Store10, Check14}
+use Rattle.machine.specs.Types.{Process, Sequence, Tag, Row, Record, Place, Idle, Load1, Load2, Load3, Load5, Store7, Store8, Store9, Store10, Check14, State, Kind, Ask, Step}
 use Rattle.machine.specs.State.{soundTag, soundNext, storing, soundStore, soundParts, soundProcess, sound, rowAt, recordAt}
 use Rattle.machine.specs.Entry.{rowGiven}
 use Rattle.machine.specs.Frame.{Ready}
-use Rattle.machine.specs.declared.State.{State}
-use Rattle.step.specs.declared.Kind.{Kind}
-use Rattle.step.specs.declared.Kind.the-variants.{Ask, Step}
 use Rattle.machine.proofs.Tests.{and-left, and-right, and-both}
 
 pub record SoundTag (n : ℕ) (s : Sequence) (tag : Tag) : Type 0 where

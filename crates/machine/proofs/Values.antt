@@ -10,33 +10,16 @@ use lib.IntN.{ℤ, pos, negsuc}
 use lib.ListN.{length, getD, set, replicate}
 use borrow.Author.Tests.{ltb-true}
 use Rattle.numbers.specs.Range.{inRange}
-use Rattle.numbers.specs.declared.Process.{Process}
-use Rattle.numbers.specs.declared.Sequence.{Sequence}
+use Rattle.machine.specs.Types.{Process, Sequence, Tag, Row, Record, Place, Idle, Load1, Load2, Load3, Load5, Store7, Store8, Store9, Store10, Check14, Request, Load, Store, Check, Kind, Ask, Step, Entry, Outcome, NoProcess, Requested, Stepped, State, Answer}
 use Rattle.step.specs.Number.{isNear, sameTag}
 use Rattle.step.specs.Steps.{stepAt, stepOf, largestNext}
 use Rattle.step.specs.Requests.{requestOf, whenIdle, idle}
 use Rattle.step.specs.Outcomes.{toldOf}
-use Rattle.step.specs.declared.Tag.{Tag}
-use Rattle.step.specs.declared.Row.{Row}
-use Rattle.step.specs.declared.Record.{Record}
-use Rattle.step.specs.declared.Place.{Place}
-use Rattle.step.specs.declared.Place.the-variants.{Idle, Load1, Load2, Load3, Load5, Store7, Store8, Store9, Store10, Check14}
-use Rattle.step.specs.declared.Request.{Request}
-use Rattle.step.specs.declared.Request.the-variants.{Load, Store, Check}
-use Rattle.step.specs.declared.Kind.{Kind}
-use Rattle.step.specs.declared.Kind.the-variants.{Ask, Step}
-use Rattle.step.specs.declared.Entry.{Entry}
-use Rattle.step.specs.declared.Outcome.{Outcome}
-use Rattle.step.specs.declared.Outcome.the-variants.{NoProcess}
-use Rattle.step.specs.declared.Requested.{Requested}
-use Rattle.step.specs.declared.Stepped.{Stepped}
 use Rattle.machine.specs.State.{rowAt, recordAt}
 use Rattle.machine.specs.Opening.{firstRow, firstState}
 use Rattle.machine.specs.Entry.{withParts, partsAfter, refused, entered}
 use Rattle.machine.specs.Frame.{Ready}
 use Rattle.machine.specs.Run.{Note, played, notes}
-use Rattle.machine.specs.declared.State.{State}
-use Rattle.machine.specs.declared.Answer.{Answer}
 use Rattle.machine.proofs.Soundness.{within-sixteen}
 use Rattle.machine.proofs.Frame.{given, left}
 use Rattle.machine.proofs.Writers.{row-by, record-by}

@@ -5,13 +5,9 @@ use mathlib.Core.Logic.{_≢_}
 use native.Mathlib.Decide.{ℕ-discrete}
 use lib.ListN.{length}
 use lib.Seq.{getD-set-same, getD-set-other, set-getD}
-use Rattle.numbers.specs.declared.Process.{Process}
-use Rattle.step.specs.declared.Row.{Row}
-use Rattle.step.specs.declared.Record.{Record}
-use Rattle.step.specs.declared.Stepped.{Stepped}
+use Rattle.machine.specs.Types.{Process, Row, Record, Stepped, State}
 use Rattle.machine.specs.State.{rowAt, recordAt, noRow, noRecord}
 use Rattle.machine.specs.Entry.{withEntry}
-use Rattle.machine.specs.declared.State.{State}
 
 module _ (st : State) (p q : Process) (m : Stepped) where
   pub row-same : q .0 < length (st .rows) → rowAt (withEntry st p q m) (q .0) ≡ m .row

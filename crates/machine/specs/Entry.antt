@@ -3,22 +3,10 @@ use Prim.Native.Nat.{ℕ}
 use mathlib.Core.Bool.{cond}
 use lib.Dec.{ltb}
 use lib.ListN.{set}
-use Rattle.numbers.specs.declared.Process.{Process}
-use Rattle.numbers.specs.declared.Sequence.{Sequence}
+use Rattle.machine.specs.Types.{Process, Sequence, Tag, Row, Record, Kind, Ask, Step, Requested, Stepped, Outcome, NoProcess, Unsound, State, Answer}
 use Rattle.step.specs.Steps.{asWas, stepOf, reached}
 use Rattle.step.specs.Requests.{requestOf}
-use Rattle.step.specs.declared.Tag.{Tag}
-use Rattle.step.specs.declared.Row.{Row}
-use Rattle.step.specs.declared.Record.{Record}
-use Rattle.step.specs.declared.Kind.{Kind}
-use Rattle.step.specs.declared.Kind.the-variants.{Ask, Step}
-use Rattle.step.specs.declared.Requested.{Requested}
-use Rattle.step.specs.declared.Stepped.{Stepped}
-use Rattle.step.specs.declared.Outcome.{Outcome}
-use Rattle.step.specs.declared.Outcome.the-variants.{NoProcess, Unsound}
 use Rattle.machine.specs.State.{sound, rowAt, recordAt}
-use Rattle.machine.specs.declared.State.{State}
-use Rattle.machine.specs.declared.Answer.{Answer}
 
 -- Which process's row an entry of p is given: a step's is the one that it reaches. A request "reaches no register": it is given p's own
 -- and hands it back as it was.

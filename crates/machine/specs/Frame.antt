@@ -5,7 +5,7 @@ use mathlib.Core.Bool.{true}
 use mathlib.Core.Logic.{_≢_}
 use lib.ListN.{length}
 use Rattle.machine.specs.State.{sound, rowAt, recordAt}
-use Rattle.machine.specs.declared.State.{State}
+use Rattle.machine.specs.Types.{State}
 
 -- st′ differs from st in X, and in the row and the record of p, at the most
 pub record Frame (p : ℕ) (st st′ : State) : Type 0 where

@@ -1,3 +1,4 @@
+pub mod Types
 pub mod State
 pub mod Opening
 pub mod Entry

@@ -3,20 +3,11 @@
 use Prim.Native.Nat.{ℕ}
 use mathlib.Core.Bool.{cond}
 use lib.Dec.{leb, ltb}
-use Rattle.numbers.specs.declared.Process.{Process}
+use Rattle.machine.specs.Types.{Process, Kind, Ask, Step, Request, Load, Store, Check, Record, Row, Place, Idle, Load1, Load2, Load3, Load5, Store7, Store8, Store9, Store10, Check14, State}
 use Rattle.step.specs.Number.{isNear, sameTag}
 use Rattle.step.specs.Requests.{idle}
-use Rattle.step.specs.declared.Kind.{Kind}
-use Rattle.step.specs.declared.Kind.the-variants.{Ask, Step}
-use Rattle.step.specs.declared.Request.{Request}
-use Rattle.step.specs.declared.Request.the-variants.{Load, Store, Check}
-use Rattle.step.specs.declared.Record.{Record}
-use Rattle.step.specs.declared.Row.{Row}
-use Rattle.step.specs.declared.Place.{Place}
-use Rattle.step.specs.declared.Place.the-variants.{Idle, Load1, Load2, Load3, Load5, Store7, Store8, Store9, Store10, Check14}
 use Rattle.machine.specs.State.{sound, rowAt, recordAt}
 use Rattle.machine.specs.Run.{Note}
-use Rattle.machine.specs.declared.State.{State}
 
 -- outcome, own steps, mark, value
 pub record Numbers : Type 0 where

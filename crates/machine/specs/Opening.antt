@@ -4,16 +4,9 @@ use mathlib.Core.Bool.{cond}
 use mathlib.Core.List.{[], _∷_}
 use lib.IntN.{ℤ, pos, negsuc}
 use lib.ListN.{replicate}
-use Rattle.numbers.specs.declared.Sequence.{Sequence}
-use Rattle.step.specs.declared.Row.{Row}
-use Rattle.step.specs.declared.Record.{Record}
-use Rattle.step.specs.declared.Place.the-variants.{Idle}
+use Rattle.machine.specs.Types.{Sequence, Row, Record, Idle, State, Start, Ready, OutOfRange, Started}
 use Rattle.numbers.specs.Range.{inRange}
 use Rattle.machine.specs.State.{noTag}
-use Rattle.machine.specs.declared.State.{State}
-use Rattle.machine.specs.declared.Start.{Start}
-use Rattle.machine.specs.declared.Start.the-variants.{Ready, OutOfRange}
-use Rattle.machine.specs.declared.Started.{Started}
 
 -- "two value slots, 0 and 1, and an old value, all V at first; an old number"
 abbrev pub firstRow : ℕ → ℤ → Row

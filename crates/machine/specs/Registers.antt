@@ -4,12 +4,8 @@ use mathlib.Core.Path.{_≡_}
 use mathlib.Core.List.{List, [], _∷_, List·Memᴰ}
 use lib.ListN.{getD}
 use Rattle.step.specs.Registers.{Content, aTag, aValue, aNumber}
-use Rattle.step.specs.declared.Record.{Record}
-use Rattle.step.specs.declared.Place.{Place}
-use Rattle.step.specs.declared.Place.the-variants.{Idle, Load1, Load2, Load3, Load5, Store7, Store8, Store9, Store10, Check14}
+use Rattle.machine.specs.Types.{Record, Place, Idle, Load1, Load2, Load3, Load5, Store7, Store8, Store9, Store10, Check14, State, Answer}
 use Rattle.machine.specs.State.{rowAt, recordAt}
-use Rattle.machine.specs.declared.State.{State}
-use Rattle.machine.specs.declared.Answer.{Answer}
 
 -- X; and of each process two slots, an old value and an old number
 pub data Register : Type 0 where

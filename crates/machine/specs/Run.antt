@@ -6,16 +6,9 @@ use lib.Dec.{leb}
 use Rattle.step.specs.Number.{sameTag}
 use Rattle.step.specs.Steps.{ownSteps}
 use Rattle.step.specs.Outcomes.{toldOf}
-use Rattle.numbers.specs.declared.Process.{Process}
-use Rattle.step.specs.declared.Place.{Place}
-use Rattle.step.specs.declared.Outcome.{Outcome}
+use Rattle.machine.specs.Types.{Process, Place, Outcome, State, Kind, Ask, Step, Entry, Answer}
 use Rattle.machine.specs.State.{recordAt}
 use Rattle.machine.specs.Entry.{called}
-use Rattle.machine.specs.declared.State.{State}
-use Rattle.step.specs.declared.Kind.{Kind}
-use Rattle.step.specs.declared.Kind.the-variants.{Ask, Step}
-use Rattle.step.specs.declared.Entry.{Entry}
-use Rattle.machine.specs.declared.Answer.{Answer}
 
 -- The fields of a record of the log, and whether X changed.
 pub record Note : Type 0 where

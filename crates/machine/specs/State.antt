@@ -8,13 +8,7 @@ use lib.ListN.{getD}
 use Rattle.numbers.specs.Range.{inRange}
 use Rattle.numbers.specs.Below.{allBelow}
 use Rattle.step.specs.Number.{isOld}
-use Rattle.numbers.specs.declared.Sequence.{Sequence}
-use Rattle.step.specs.declared.Tag.{Tag}
-use Rattle.step.specs.declared.Row.{Row}
-use Rattle.step.specs.declared.Record.{Record}
-use Rattle.step.specs.declared.Place.{Place}
-use Rattle.step.specs.declared.Place.the-variants.{Idle, Load1, Load2, Load3, Load5, Store7, Store8, Store9, Store10, Check14}
-use Rattle.machine.specs.declared.State.{State}
+use Rattle.machine.specs.Types.{Sequence, Tag, Row, Record, Place, Idle, Load1, Load2, Load3, Load5, Store7, Store8, Store9, Store10, Check14, State}
 
 -- past the 16th there is no row and no record; these stand for them
 abbrev pub noTag : Tag

@@ -6,11 +6,7 @@ use mathlib.Core.Bool.{Bool, true, false}
 use mathlib.Core.List.{List, [], _∷_, _++_, map}
 use Rattle.machine.specs.Opening.{startOf}
 use Rattle.machine.specs.Run.{Note, notes}
-use Rattle.step.specs.declared.Entry.{Entry}
-use Rattle.step.specs.declared.Kind.{Kind}
-use Rattle.step.specs.declared.Kind.the-variants.{Ask, Step}
-use Rattle.step.specs.declared.Request.{Request}
-use Rattle.step.specs.declared.Request.the-variants.{Load, Store, Check}
+use Rattle.machine.specs.Types.{Entry, Kind, Ask, Step, Request, Load, Store, Check}
 
 pub record Line : Type 0 where
   pub entry : Entry

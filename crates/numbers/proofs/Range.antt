@@ -5,7 +5,7 @@ use mathlib.Core.Bool.{true, _&&_, and-eq-true-iff}
 use lib.Dec.{leb}
 use borrow.Author.Tests.{leb-true}
 use Rattle.numbers.specs.Range.{inRange}
-use Rattle.numbers.specs.declared.Sequence.{Sequence}
+use Rattle.numbers.specs.Types.{Sequence}
 
 pub record InRange (n : ℕ) (s : Sequence) : Type 0 where
   pub some : 1 ≤ n

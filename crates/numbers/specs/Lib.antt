@@ -1,3 +1,4 @@
+pub mod Types
 pub mod Range
 pub mod Below
 pub mod Bytes

@@ -2,7 +2,7 @@
 use Prim.Native.Nat.{ℕ}
 use mathlib.Core.Bool.{Bool, _&&_}
 use lib.Dec.{leb}
-use Rattle.numbers.specs.declared.Sequence.{Sequence}
+use Rattle.numbers.specs.Types.{Sequence}
 
 -- "N is the number of processes, 1 to 16. S is the last usable sequence number, 2 to 4,294,967,295."
 abbrev pub inRange : ℕ → Sequence → Bool

@@ -7,8 +7,7 @@ use lib.Dec.{eqb}
 use Rattle.numbers.specs.Range.{inRange}
 use Rattle.schedule.specs.Bytes.{number, zeros}
 use Rattle.schedule.specs.Check.{blockNumber}
-use Rattle.schedule.specs.declared.FirstBlock.{FirstBlock}
-use Rattle.schedule.specs.declared.FirstBlock.the-variants.{FirstRefused, Start}
+use Rattle.schedule.specs.Types.{FirstBlock, FirstRefused, Start}
 
 -- "byte 2 is N, .. 4 to 7 S, 8 to 15 V, 16 and 17 the number of blocks after this one"
 abbrev pub startN : List ℕ → ℕ

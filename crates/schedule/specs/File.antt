@@ -4,11 +4,9 @@ use mathlib.Core.Bool.{Bool, true, false, cond, not, _&&_}
 use mathlib.Core.List.{List, [], _++_}
 use lib.ListN.{length, take, drop}
 use lib.Dec.{eqb, leb}
-use Rattle.step.specs.declared.Entry.{Entry}
+use Rattle.schedule.specs.Types.{Entry, Reading, Refused, Accepted}
 use Rattle.schedule.specs.Block0.{startN, startS, startV, firstNumber}
 use Rattle.schedule.specs.Later.{laterNumber, blockEntries}
-use Rattle.schedule.specs.declared.Reading.{Reading}
-use Rattle.schedule.specs.declared.Reading.the-variants.{Refused, Accepted}
 
 -- "1 | file length not a multiple of 512, or outside 512 to 65,536": neither of these
 abbrev pub lengthFine : ℕ → Bool

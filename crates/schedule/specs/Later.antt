@@ -5,14 +5,9 @@ use mathlib.Core.List.{List, []}
 use lib.ListN.{getD, length, take, drop}
 use lib.Dec.{eqb, leb}
 use Rattle.numbers.specs.Below.{allBelow, listBelow}
-use Rattle.step.specs.declared.Entry.{Entry}
-use Rattle.step.specs.declared.Kind.{Kind}
-use Rattle.step.specs.declared.Kind.the-variants.{Ask, Step}
-use Rattle.step.specs.declared.Request.the-variants.{Load, Store, Check}
+use Rattle.schedule.specs.Types.{Entry, Kind, Ask, Step, Load, Store, Check, Block, BlockRefused, Entries}
 use Rattle.schedule.specs.Bytes.{number, zeros}
 use Rattle.schedule.specs.Check.{blockNumber}
-use Rattle.schedule.specs.declared.Block.{Block}
-use Rattle.schedule.specs.declared.Block.the-variants.{BlockRefused, Entries}
 
 -- "Entry: byte 0 the kind (1 LL, 2 SC, 3 VL request, 4 step), byte 1 the process, .. 4 to 11 the value for SC"
 abbrev pub kind : List ℕ → ℕ

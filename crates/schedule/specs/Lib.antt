@@ -1,3 +1,4 @@
+pub mod Types
 pub mod Bytes
 pub mod Check
 pub mod Block0

@@ -3,13 +3,10 @@ use mathlib.Core.Path.{_≡_}
 use mathlib.Core.List.{List, [], _∷_, _++_}
 use Prim.Native.Nat.{ℕ, _-_}
 use lib.ListN.{length, replicate}
-use Rattle.step.specs.declared.Entry.{Entry}
-use Rattle.step.specs.declared.Kind.the-variants.{Ask, Step}
-use Rattle.step.specs.declared.Request.the-variants.{Load, Store, Check}
+use Rattle.schedule.specs.Types.{Entry, Ask, Step, Load, Store, Check, Refused, Accepted}
 use Rattle.schedule.specs.Check.{checkOf}
 use Rattle.schedule.specs.Later.{entryBy}
 use Rattle.schedule.specs.File.{blockAt, fileEntries, reading}
-use Rattle.schedule.specs.declared.Reading.the-variants.{Refused, Accepted}
 
 -- a block: its first bytes, zeros up to byte 509, and the two bytes of its check
 abbrev block : List ℕ → ℕ → ℕ → List ℕ

@@ -13,13 +13,7 @@ use lib.Seq.{getD-set-same, getD-set-other}
 use Rattle.step.specs.Number.{isNear, sameTag, withOld}
 use Rattle.step.specs.Steps.{stepAt, stepOf, reached, reachedAt, largestNext, slot, withSlot, withOldValue}
 use Rattle.step.specs.Registers.{Content, aTag, aValue, aNumber}
-use Rattle.numbers.specs.declared.Process.{Process}
-use Rattle.step.specs.declared.Tag.{Tag}
-use Rattle.step.specs.declared.Row.{Row}
-use Rattle.step.specs.declared.Record.{Record}
-use Rattle.step.specs.declared.Place.{Place}
-use Rattle.step.specs.declared.Place.the-variants.{Idle, Load1, Load2, Load3, Load5, Store7, Store8, Store9, Store10, Check14}
-use Rattle.step.specs.declared.Stepped.{Stepped}
+use Rattle.step.specs.Types.{Process, Tag, Row, Record, Place, Idle, Load1, Load2, Load3, Load5, Store7, Store8, Store9, Store10, Check14, Stepped}
 
 -- the registers of what a step is given: X, and those of the one row
 pub data Register : Type 0 where

@@ -1,3 +1,4 @@
+pub mod Types
 pub mod Number
 pub mod Steps
 pub mod Requests

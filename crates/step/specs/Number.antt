@@ -4,8 +4,7 @@ use mathlib.Core.Bool.{Bool, false, _&&_, _||_}
 use lib.Dec.{eqb}
 use lib.IntN.{ℤ, pos, negsuc, _-ℤ_}
 use lib.Signed.{leZ}
-use Rattle.step.specs.declared.Tag.{Tag}
-use Rattle.step.specs.declared.Row.{Row}
+use Rattle.step.specs.Types.{Tag, Row}
 
 -- whether two integers are equal
 abbrev pub eqZ : ℤ → ℤ → Bool

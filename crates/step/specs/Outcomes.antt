@@ -1,8 +1,6 @@
 -- Document 01, "The log": what it says of each outcome. One table; the log's bytes are made from it.
 use Prim.Native.Nat.{ℕ}
-use Rattle.step.specs.declared.Outcome.{Outcome}
-use Rattle.step.specs.declared.Outcome.the-variants.{Taken, GoesOn, Current, Old, Done, NotDone, Yes, No, NoProcess, CallOpen, UsedUp, NoCall, Unsound}
-use Rattle.step.specs.declared.Told.{Told}
+use Rattle.step.specs.Types.{Outcome, Taken, GoesOn, Current, Old, Done, NotDone, Yes, No, NoProcess, CallOpen, UsedUp, NoCall, Unsound, Told}
 
 abbrev pub says : ℕ → ℕ → ℕ → Told
 says number mark value = record { number = number; mark = mark; value = value }

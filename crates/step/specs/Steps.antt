@@ -5,16 +5,7 @@ use lib.Dec.{leb}
 use lib.IntN.{pos, _-ℤ_}
 use lib.ListN.{getD, set}
 use Rattle.step.specs.Number.{isNear, withOld, sameTag}
-use Rattle.numbers.specs.declared.Process.{Process}
-use Rattle.numbers.specs.declared.Sequence.{Sequence}
-use Rattle.step.specs.declared.Tag.{Tag}
-use Rattle.step.specs.declared.Row.{Row}
-use Rattle.step.specs.declared.Place.{Place}
-use Rattle.step.specs.declared.Place.the-variants.{Idle, Load1, Load2, Load3, Load5, Store7, Store8, Store9, Store10, Check14}
-use Rattle.step.specs.declared.Record.{Record}
-use Rattle.step.specs.declared.Outcome.{Outcome}
-use Rattle.step.specs.declared.Outcome.the-variants.{GoesOn, Current, Old, Done, NotDone, Yes, No, NoCall, Unsound}
-use Rattle.step.specs.declared.Stepped.{Stepped}
+use Rattle.step.specs.Types.{Process, Sequence, Tag, Row, Place, Idle, Load1, Load2, Load3, Load5, Store7, Store8, Store9, Store10, Check14, Record, Outcome, GoesOn, Current, Old, Done, NotDone, Yes, No, NoCall, Unsound, Stepped}
 
 -- the record with another call place
 abbrev pub at : Record → Place → Record

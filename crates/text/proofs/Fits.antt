@@ -3,7 +3,7 @@
 use Prim.Native.Nat.{ℕ, _≤_}
 use native.Mathlib.Omega.{arith}
 use lib.ListN.{length, length-append}
-use Rattle.log.specs.declared.Note.{Note}
+use Rattle.text.specs.Types.{Note}
 use Rattle.text.specs.Decimal.{decimalOf}
 use Rattle.text.specs.Lines.{headLine, lineOf, refusedLine}
 use Rattle.text.proofs.Digits.{decimal-length}

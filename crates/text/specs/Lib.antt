@@ -1,3 +1,4 @@
+pub mod Types
 pub mod Decimal
 pub mod Lines
 pub mod Worked

@@ -8,11 +8,7 @@ use mathlib.Core.List.{List, [], _∷_, _++_}
 use lib.Dec.{leb}
 use lib.ListN.{length, drop}
 use Rattle.log.specs.Log.{headFound, noteFound}
-use Rattle.log.specs.declared.HeadFound.{HeadFound}
-use Rattle.log.specs.declared.HeadFound.the-variants.{Laid, NoHead}
-use Rattle.log.specs.declared.Note.{Note}
-use Rattle.log.specs.declared.NoteFound.{NoteFound}
-use Rattle.log.specs.declared.NoteFound.the-variants.{Written, NoNote}
+use Rattle.text.specs.Types.{HeadFound, Laid, NoHead, Note, NoteFound, Written, NoNote}
 use Rattle.text.specs.Decimal.{decimalOf}
 
 -- plain text: a byte for each character

@@ -10,8 +10,7 @@ use lib.ListN.{length}
 use denote.Ref.{now}
 use Rattle.schedule.specs.Later.{laterNumber, count}
 use Rattle.schedule.specs.File.{entriesTo, inTurn}
-use Rattle.schedule.specs.declared.Reading.{Reading}
-use Rattle.schedule.specs.declared.Reading.the-variants.{Accepted}
+use Rattle.schedule.specs.Types.{Reading, Accepted}
 use Rattle.schedule.proofs.Laws.{part-length}
 use Rattle.schedule.proofs.Entries.{entries-more}
 use Rattle.schedule.proofs.Accepted.{turn-refused, turn-next}
