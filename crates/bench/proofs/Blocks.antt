@@ -13,13 +13,15 @@ use Rattle.machine.specs.Frame.{Ready}
 use Rattle.machine.specs.Run.{notes, after, changeCount}
 use Rattle.machine.proofs.RunLaws.{ready-after, after-append, notes-append, notes-length, count-append, count-most}
 use Rattle.numbers.proofs.Below.{same-below}
-use Rattle.schedule.specs.Later.{meant, count, entryBytes, entryAt, usedPart, blockEntries}
+use Rattle.schedule.specs.Blocks.{meant, count, entryBytes, blockEntries}
+use Rattle.schedule.specs.Direct.{entryAt, usedPart}
 use Rattle.schedule.specs.File.{blockAt, blocksAfter, entriesTo, fileEntries, reading, isAccepted}
 use Rattle.schedule.proofs.Entries.{block-entry, used-length, used-entry, entries-none, entries-next, entries-more}
 use Rattle.schedule.proofs.Accepted.{accepted-room}
 use Rattle.log.specs.Log.{recordsOf}
 use Rattle.log.proofs.Laws.{records-length, records-append, tail-given, tail-back}
-use Rattle.bench.specs.Play.{inLog, partEntries, playedFrom, recordsFrom}
+use Rattle.bench.specs.Play.{partEntries, playedFrom, recordsFrom}
+use Rattle.bench.specs.Bench.{inLog}
 
 -- A run that goes on is one run.
 pub played-append : (from : Played) (es fs : List Entry) → playedFrom (playedFrom from es) fs ≡ playedFrom from (es ++ fs)

@@ -6,9 +6,7 @@ use mathlib.Core.List.{List}
 use native.Mathlib.Omega.{arith}
 use lib.Dec.{leb, eqb}
 use lib.ListN.{length}
-use Rattle.schedule.specs.Check.{checkFine, placeFine}
-use Rattle.schedule.specs.Block0.{firstFine, firstNumber}
-use Rattle.schedule.specs.Later.{laterFine, laterNumber}
+use Rattle.schedule.specs.Blocks.{checkFine, placeFine, firstFine, firstNumber, laterFine, laterNumber}
 use Rattle.schedule.specs.File.{lengthFine, blockAt, blocksAfter, found, inTurn, acceptedAs, reading}
 use Rattle.bench.specs.Types.{Reading, Refused, Accepted, Ran}
 use Rattle.schedule.proofs.Accepted.{length-blocks}

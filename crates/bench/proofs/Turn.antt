@@ -9,19 +9,21 @@ use lib.Dec.{ltb}
 use lib.ListN.{length, take, drop, length-append, length-drop, length-map}
 use Rattle.bench.specs.Types.{Process, Sequence, Version, Entry, Kind, Ask, Step, Stepped, Outcome, State, Answer}
 use Rattle.numbers.proofs.Below.{listed-length}
-use Rattle.step.specs.Number.{sameTag}
+use Rattle.step.specs.Steps.{sameTag}
 use Rattle.step.specs.Outcomes.{toldOf}
 use Rattle.machine.specs.State.{rowAt, recordAt}
-use Rattle.machine.specs.Entry.{rowGiven, withEntry, seatOf, playedParts}
+use Rattle.machine.specs.Entry.{rowGiven, withEntry}
+use Rattle.machine.specs.Parts.{seatOf, playedParts}
 use Rattle.machine.specs.Frame.{Ready}
 use Rattle.machine.specs.Run.{Note, played, noteOf, notes, after, changeCount, stepsBy}
 use Rattle.machine.proofs.RunLaws.{ready-after, after-append, notes-append, count-append, size-kept, notes-length, count-most}
 use Rattle.machine.proofs.PartsOfRun.{seat, given, played-by-parts, seat-within, given-within}
-use Rattle.schedule.specs.Later.{entryAt}
+use Rattle.schedule.specs.Direct.{entryAt}
 use Rattle.log.specs.Log.{laid, recordOf, recordsOf}
 use Rattle.log.specs.declared.Note as log
 use Rattle.log.proofs.Laws.{record-length, records-length, records-more, grown}
-use Rattle.bench.specs.Play.{inLog, recordFrom, partEntries, playedFrom, recordsFrom}
+use Rattle.bench.specs.Play.{recordFrom, partEntries, playedFrom, recordsFrom}
+use Rattle.bench.specs.Bench.{inLog}
 
 -- one entry more
 pub entries-more : (part : List ℕ) (j : ℕ) → partEntries part (j + 1) ≡ partEntries part j ++ (entryAt part j ∷ [])

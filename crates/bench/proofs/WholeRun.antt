@@ -6,8 +6,8 @@ use mathlib.Core.List.{List, _++_, map}
 use native.Mathlib.Omega.{arith}
 use lib.ListN.{length, take, drop, length-append, length-drop}
 use lib.Seq.{take-at, drop-at, drop-drop}
-use Rattle.numbers.specs.Range.{inRange}
-use Rattle.machine.specs.Opening.{firstState, zeroState, startOf}
+use Rattle.numbers.specs.Numbers.{inRange}
+use Rattle.machine.specs.State.{firstState, zeroState, startOf}
 use Rattle.machine.specs.Frame.{Ready}
 use Rattle.machine.specs.Run.{Note, notes, changeCount}
 use Rattle.bench.specs.Types.{Started, Start, Accepted, Played}
@@ -16,7 +16,8 @@ use Rattle.schedule.specs.File.{fileEntries, reading, isAccepted}
 use Rattle.schedule.proofs.Accepted.{accepted-answer, accepted-bound, accepted-start}
 use Rattle.log.specs.Log.{laid, headOf, recordsOf, logLength}
 use Rattle.log.proofs.Laws.{head-length, laid-fits, tail-given, tail-back}
-use Rattle.bench.specs.Play.{inLog, playedFrom, recordsFrom}
+use Rattle.bench.specs.Play.{playedFrom, recordsFrom}
+use Rattle.bench.specs.Bench.{inLog}
 use Rattle.bench.specs.Bench.{startState, notesOf, lastState, written}
 
 module _ (f : List ℕ) (n s v c : ℕ) (is : reading f ≡ Accepted n s v c) where

@@ -6,10 +6,14 @@ use lib.Dec.{leb}
 use lib.ListN.{length, drop}
 use Rattle.schedule.specs.File.{reading, fileEntries}
 use Rattle.bench.specs.Types.{Reading, Refused, Accepted, State, Ran}
-use Rattle.machine.specs.Opening.{startOf, zeroState}
+use Rattle.machine.specs.State.{startOf, zeroState}
 use Rattle.machine.specs.Run.{Note, notes, after, changeCount}
+use Rattle.log.specs.declared.Note as log
 use Rattle.log.specs.Log.{headOf, recordsOf, logLength}
-use Rattle.bench.specs.Play.{inLog}
+
+-- "in order: outcome, process, own steps of this call so far with this one .., mark, value"
+abbrev pub inLog : Note → log.Note
+inLog w = record { outcome = w .outcome; process = w .process; steps = w .steps; mark = w .mark; value = w .value }
 
 -- the state that a file's run starts from: the start of its N, S and V
 abbrev pub startState : ℕ → ℕ → ℕ → State

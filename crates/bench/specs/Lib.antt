@@ -1,3 +1,3 @@
 pub mod Types
-pub mod Play
 pub mod Bench
+pub mod Play

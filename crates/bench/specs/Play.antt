@@ -2,17 +2,13 @@
 use Prim.Native.Nat.{ℕ, _+_, _*_}
 use mathlib.Core.List.{List, _++_, map}
 use lib.ListN.{length, drop}
-use Rattle.numbers.specs.Below.{listBelow}
+use Rattle.numbers.specs.Numbers.{listBelow}
 use Rattle.step.specs.Outcomes.{toldOf}
+use Rattle.bench.specs.Bench.{inLog}
 use Rattle.bench.specs.Types.{Entry, Kind, Place, Outcome, Note, Played}
 use Rattle.machine.specs.Run.{stepsBy, notes, after, changeCount}
-use Rattle.machine.specs.Run as machine
-use Rattle.schedule.specs.Later.{entryAt}
+use Rattle.schedule.specs.Direct.{entryAt}
 use Rattle.log.specs.Log.{recordsOf}
-
--- "in order: outcome, process, own steps of this call so far with this one .., mark, value"
-abbrev pub inLog : machine.Note → Note
-inLog w = record { outcome = w .outcome; process = w .process; steps = w .steps; mark = w .mark; value = w .value }
 
 -- the record of an entry of process p, from the place before it and its outcome
 abbrev pub recordFrom : ℕ → Kind → Place → Outcome → Note

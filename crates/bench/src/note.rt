@@ -2,7 +2,7 @@
 ghost use mathlib.Core.Path.{_≡_};
 ghost use mathlib.Core.Bool.{cond, not};
 ghost use Prim.Native.Nat.{_+_, _<_};
-ghost use Rattle.step.specs.Number.{sameTag};
+ghost use Rattle.step.specs.Steps.{sameTag};
 ghost use Rattle.bench.specs.Play.{recordFrom};
 use log::Note;
 use machine::parts::steps_by;

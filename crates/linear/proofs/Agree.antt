@@ -6,7 +6,7 @@ use mathlib.Core.Path.{_≡_, refl}
 use mathlib.Core.List.{List, [], _∷_, _++_, map}
 use Rattle.linear.specs.Types.{Ask, Step, Load, Store, Check}
 use Rattle.machine.specs.Table.{Line, asks, goes, gives, saysNo, away, LL, SCtwo, SC, SCfails, behind}
-use Rattle.bench.specs.Play.{inLog}
+use Rattle.bench.specs.Bench.{inLog}
 use Rattle.word.specs.Word.{Op, load, store, check, Answer, value, done, notDone}
 use Rattle.word.specs.Word as word
 use Rattle.word.specs.Order.{Call}

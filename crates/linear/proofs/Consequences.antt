@@ -8,7 +8,7 @@ use native.Mathlib.Omega.{arith}
 use native.Mathlib.Decide.{ℕ-discrete, decLt}
 use lib.Dec.{eqb}
 use borrow.Author.Tests.{eqb-true, eq-eqb, ne-eqb}
-use Rattle.step.specs.Number.{sameTag}
+use Rattle.step.specs.Steps.{sameTag}
 use Rattle.linear.specs.Types.{Tag, Row, Place, Idle, Load1, Load2, Load3, Load5, Store7, Store8, Store9, Store10, Check14, State}
 use Rattle.machine.proofs.Tests.{and-left, and-right, and-both}
 use Rattle.machine.specs.State.{rowAt, recordAt}

@@ -7,17 +7,16 @@ use mathlib.Core.HLevel.{Π-prop}
 use mathlib.Core.List.{List, [], _∷_, map, Perm·symm}
 use native.Mathlib.Omega.{arith}
 use native.Mathlib.Bridge.{le-prop}
-use Rattle.numbers.specs.Range.{inRange}
+use Rattle.numbers.specs.Numbers.{inRange}
 use Rattle.linear.specs.Types.{Sequence, Entry, State}
-use Rattle.machine.specs.Opening.{firstState}
+use Rattle.machine.specs.State.{firstState}
 use Rattle.machine.specs.Frame.{Ready}
 use Rattle.machine.specs.Run.{Note, played, noteOf, after, notes, changeCount, changes}
 use Rattle.machine.proofs.RunLaws.{ready-start, ready-played}
-use Rattle.bench.specs.Play.{inLog}
+use Rattle.bench.specs.Bench.{inLog}
 use Rattle.log.specs.declared.Note as log
 use Rattle.word.specs.Order.{Call, Every}
-use Rattle.word.specs.Calls.{Reply, Calls, noCalls, goOn, callsFrom, doneCount}
-use Rattle.word.specs.OneOrder.{Answered, OneOrder}
+use Rattle.word.specs.Calls.{Reply, Calls, noCalls, goOn, callsFrom, doneCount, Answered, OneOrder}
 use Rattle.word.proofs.Lists.{every-map, every-perm}
 use Rattle.word.proofs.Good.{good-first}
 use Rattle.word.proofs.Told.{NotLater, every-mem, done-on}

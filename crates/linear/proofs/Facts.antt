@@ -7,11 +7,10 @@ use mathlib.Core.List.{List}
 use native.Mathlib.Omega.{arith}
 use lib.IntN.{pos, _-ℤ_}
 use lib.Signed.{leZ, ltZ}
-use Rattle.step.specs.Number.{isNear, sameTag}
+use Rattle.step.specs.Steps.{isNear, sameTag}
 use Rattle.linear.specs.Types.{Sequence, Load5, Entry, State}
-use Rattle.numbers.specs.Range.{inRange}
-use Rattle.machine.specs.State.{rowAt, recordAt}
-use Rattle.machine.specs.Opening.{firstState}
+use Rattle.numbers.specs.Numbers.{inRange}
+use Rattle.machine.specs.State.{rowAt, recordAt, firstState}
 use Rattle.machine.specs.Frame.{Ready}
 use Rattle.machine.specs.Run.{after}
 use Rattle.machine.proofs.Soundness.{sure}

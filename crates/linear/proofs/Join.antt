@@ -8,8 +8,7 @@ use mathlib.Core.Option.{none}
 use mathlib.Core.Logic.{_≢_, inl, inr}
 use mathlib.Core.List.{List, [], _∷_, _++_}
 use native.Mathlib.Omega.{arith}
-use Rattle.step.specs.Number.{sameTag}
-use Rattle.step.specs.Steps.{at}
+use Rattle.step.specs.Steps.{sameTag, at}
 use Rattle.linear.specs.Types.{Row, Record, Place, Idle, Store9, State}
 use Rattle.machine.specs.State.{rowAt, recordAt}
 use Rattle.word.specs.Word.{Link, Op, load, store, Answer, value, done, notDone, put, linked, answerOf, first}

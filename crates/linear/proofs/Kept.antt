@@ -11,8 +11,7 @@ use native.Mathlib.Omega.{arith}
 use lib.IntN.{pos, _-ℤ_}
 use lib.ListN.{getD}
 use lib.Seq.{getD-set-other}
-use Rattle.step.specs.Number.{isNear, isOld, withOld}
-use Rattle.step.specs.Steps.{at, withSlot, withOldValue}
+use Rattle.step.specs.Steps.{isNear, isOld, withOld, at, withSlot, withOldValue}
 use Rattle.linear.specs.Types.{Tag, Row, Record, Place, Idle, Load1, Load2, Load3, Load5, Store7, Store8, Store9, Store10, Check14, State}
 use Rattle.machine.specs.State.{rowAt, recordAt}
 use Rattle.word.specs.Word.{Link, none, put}

@@ -8,19 +8,17 @@ use mathlib.Core.Logic.{_≢_, inl, inr}
 use mathlib.Core.List.{List, [], _∷_, _++_, List·Memᴰ, List·Memᴰ·head, Memᴰ·append-left, Memᴰ·append-right}
 use native.Mathlib.Omega.{arith}
 use lib.Dec.{eqb}
-use Rattle.numbers.specs.Range.{inRange}
+use Rattle.numbers.specs.Numbers.{inRange}
 use Rattle.numbers.proofs.Range.{range-of}
 use Rattle.linear.specs.Types.{Process, Sequence, Row, Record, Kind, Step, Place, Idle, Load1, Load2, Load3, Load5, Store7, Store8, Store9, Store10, Check14, Outcome, GoesOn, State}
 use Rattle.step.specs.Steps.{ownSteps}
-use Rattle.machine.specs.State.{recordAt}
-use Rattle.machine.specs.Opening.{firstState}
+use Rattle.machine.specs.State.{recordAt, firstState}
 use Rattle.machine.specs.Entry.{called}
 use Rattle.machine.specs.Frame.{Ready}
 use Rattle.machine.specs.Run.{turnedAway, changes}
 use Rattle.word.specs.Word.{Op, load, store, check, Answer, value, done, notDone, saysYes, saysNo, put}
 use Rattle.word.specs.Order.{Call}
-use Rattle.word.specs.Calls.{Item, away, Reply, Calls, isStore, noCalls, callBy, decides, decidesIn, goOn}
-use Rattle.word.specs.OneOrder.{callOf}
+use Rattle.word.specs.Calls.{Item, away, Reply, Calls, isStore, noCalls, callBy, decides, decidesIn, goOn, callOf}
 use Rattle.word.proofs.Put.{split, put-same, put-other}
 use Rattle.word.proofs.Lists.{every-map, every-snoc}
 use Rattle.word.proofs.Good.{Own, own-snoc}

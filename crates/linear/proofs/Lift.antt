@@ -9,7 +9,7 @@ use lib.IntN.{ℤ, pos, negsuc, subℕ, _-ℤ_}
 use lib.Signed.{leZ, ltZ}
 use borrow.Author.Tests.{ltb-true, ltb-false, leb-true, leb-false, eqb-true, eqb-false, eq-eqb, le-leb, lt-ltb, le-ltb}
 use Rattle.machine.proofs.Tests.{and-left}
-use Rattle.step.specs.Number.{eqZ, isNear, isOld}
+use Rattle.step.specs.Steps.{eqZ, isNear, isOld}
 
 abbrev pub lift : ℤ → ℕ
 lift (pos n) = suc n

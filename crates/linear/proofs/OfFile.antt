@@ -8,7 +8,7 @@ use native.Mathlib.Omega.{arith}
 use lib.ListN.{length, getD, drop, length-map}
 use borrow.Author.Tests.{le-leb}
 use Rattle.machine.specs.Run.{Note, notes, changeCount}
-use Rattle.machine.specs.Opening.{firstState}
+use Rattle.machine.specs.State.{firstState}
 use Rattle.machine.proofs.RunLaws.{notes-length, count-most}
 use Rattle.machine.proofs.Values.{values-below}
 use Rattle.schedule.specs.File.{reading, fileEntries}
@@ -17,12 +17,11 @@ use Rattle.schedule.proofs.Accepted.{accepted-answer}
 use Rattle.log.specs.Log.{headOf, recordsOf, logOf, logLength, headIn, notesIn}
 use Rattle.log.specs.declared.Note as log
 use Rattle.log.proofs.Back.{head-in, notes-back}
-use Rattle.bench.specs.Play.{inLog}
+use Rattle.bench.specs.Bench.{inLog}
 use Rattle.bench.specs.Bench.{notesOf, logAfter}
 use Rattle.bench.proofs.WholeRun.{range, start-is, entry-count, few-entries}
 use Rattle.word.specs.Order.{Every}
-use Rattle.linear.specs.Demand3.{Demand3}
-use Rattle.linear.specs.OfFile.{LogOfFile, Demand3OfFile}
+use Rattle.linear.specs.Demand3.{Demand3, LogOfFile, Demand3OfFile}
 use Rattle.linear.proofs.Demand3.{demand-3}
 use Rattle.linear.proofs.Values.{entries-small, first-small}
 

@@ -11,13 +11,11 @@ use native.Mathlib.Decide.{ℕ-discrete}
 use lib.Dec.{eqb}
 use borrow.Author.Tests.{ne-eqb}
 use lib.Seq.{getD-set-same}
-use Rattle.numbers.specs.Range.{inRange}
+use Rattle.numbers.specs.Numbers.{inRange}
 use Rattle.numbers.proofs.Range.{range-of}
 use Rattle.linear.specs.Types.{Process, Sequence, Kind, Step, Place, Idle, Load1, Load3, Load5, Store7, Store8, Check14, Outcome, GoesOn, State}
-use Rattle.step.specs.Number.{sameTag}
-use Rattle.step.specs.Steps.{at, withSlot}
-use Rattle.machine.specs.State.{rowAt, recordAt}
-use Rattle.machine.specs.Opening.{firstState}
+use Rattle.step.specs.Steps.{sameTag, at, withSlot}
+use Rattle.machine.specs.State.{rowAt, recordAt, firstState}
 use Rattle.machine.specs.Entry.{called}
 use Rattle.machine.specs.Frame.{Ready}
 use Rattle.machine.specs.Run.{turnedAway, changes}

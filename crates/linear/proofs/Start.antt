@@ -9,9 +9,8 @@ use native.Mathlib.Omega.{arith}
 use lib.IntN.{pos, negsuc}
 use lib.ListN.{getD-replicate}
 use Rattle.linear.specs.Types.{Sequence, Row, Record, Idle}
-use Rattle.numbers.specs.Range.{inRange}
-use Rattle.machine.specs.State.{rowAt, recordAt, noRow, noRecord}
-use Rattle.machine.specs.Opening.{firstRow, firstRecord, firstState}
+use Rattle.numbers.specs.Numbers.{inRange}
+use Rattle.machine.specs.State.{rowAt, recordAt, noRow, noRecord, firstRow, firstRecord, firstState}
 use Rattle.numbers.proofs.Range.{range-of}
 use Rattle.word.specs.Word.{none}
 use Rattle.linear.proofs.History.{Change, At}

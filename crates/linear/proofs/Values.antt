@@ -9,12 +9,11 @@ use native.Mathlib.Decide.{decLt}
 use lib.Dec.{eqb}
 use lib.ListN.{length, getD, take, drop, length-take, List·getD-eq-default}
 use lib.Seq.{getD-take, getD-drop}
-use Rattle.numbers.specs.Below.{listBelow}
+use Rattle.numbers.specs.Numbers.{listBelow}
 use Rattle.numbers.proofs.Bytes.{number-below}
 use Rattle.linear.specs.Types.{Entry, Ask, Step, Load, Store, Check}
 use Rattle.machine.proofs.Values.{SmallKind, SmallEntries}
-use Rattle.schedule.specs.Block0.{startV}
-use Rattle.schedule.specs.Later.{kind, process, value, entryBy, noEntry, meant, count, entryBytes, blockEntries}
+use Rattle.schedule.specs.Blocks.{startV, kind, process, value, entryBy, noEntry, meant, count, entryBytes, blockEntries}
 use Rattle.schedule.specs.File.{blockAt, entriesTo, fileEntries, blocksAfter}
 use Rattle.word.specs.Order.{Every}
 

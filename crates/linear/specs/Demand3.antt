@@ -1,17 +1,20 @@
 -- Demand 3 of a log: its records are read beside the entries that they are of, and with the head's count of changes they say what the
--- atomic linked word of word/specs says. No state of the machine stands in it.
+-- atomic linked word of word/specs says. No state of the machine stands in it. At the end: demand 3 of every accepted file and its log.
 -- Assumes nothing.
-use Prim.Native.Nat.{ℕ, suc, _-_, _≤_}
+use Prim.Native.Nat.{ℕ, suc, _-_, _≤_, _<_}
 use mathlib.Core.Path.{_≡_}
 use mathlib.Core.Bool.{true, cond}
 use mathlib.Core.Logic.{_⊎_}
 use mathlib.Core.List.{List, [], _∷_}
 use lib.Dec.{eqb}
-use lib.ListN.{getD}
-use Rattle.linear.specs.Types.{Entry, Kind, Ask, Step, Request, Load, Store, Check, Note}
+use lib.ListN.{getD, length}
+use Rattle.linear.specs.Types.{Entry, Kind, Ask, Step, Request, Load, Store, Check, Note, Accepted}
 use Rattle.word.specs.Word.{Op, load, store, check, Answer, value, done, notDone, saysYes, saysNo}
-use Rattle.word.specs.Calls.{Item, asks, goes, answers, away, Calls, isStore, noCalls, goOn, callsFrom, doneCount}
-use Rattle.word.specs.OneOrder.{OneOrder}
+use Rattle.word.specs.Calls.{Item, asks, goes, answers, away, Calls, isStore, noCalls, goOn, callsFrom, doneCount, OneOrder}
+use Rattle.schedule.specs.File.{reading, fileEntries}
+use Rattle.log.specs.Log.{logLength, headIn, notesIn}
+use Rattle.bench.specs.Bench.{logAfter}
+use Rattle.word.specs.Order.{Every}
 
 -- a store is decided by step 8, its second own step
 abbrev pub stepOfStore : ℕ
@@ -111,3 +114,16 @@ pub record Demand3 (v changes : ℕ) (es : List Entry) (ws : List Note) : Type 0
   pub records : RightRecords noCalls es ws
   -- "how often X has changed": the stores that were decided as done, answered or not
   pub changesCounted : changes ≡ doneCount (callsIn es ws .played)
+
+-- What people hold in their hands: a file of N n and first value v with c entries, and the log of its run. The log's head says c and n;
+-- its records, read back from its bytes, are those of the file's entries; and they and the head's count of changes meet demand 3.
+pub record LogOfFile (n v c : ℕ) (file log : List ℕ) : Type 0 where
+  pub entries : headIn log .entries ≡ c
+  pub processes : headIn log .n ≡ n
+  pub calls : Demand3 v (headIn log .changes) (fileEntries file) (notesIn log)
+
+-- "The answered calls of every accepted file": for every list of bytes that the reader accepts, and every lent log that is long enough,
+-- whatever it held.
+abbrev pub Demand3OfFile : List ℕ → Type 0
+Demand3OfFile f =
+    Every (λ b. b < 256) f → (n s v c : ℕ) → reading f ≡ Accepted n s v c → (log : List ℕ) → logLength c ≤ length log → LogOfFile n v c f (logAfter f log)

@@ -1,4 +1,3 @@
 pub mod Types
-pub mod Demand3
 pub mod Linked
-pub mod OfFile
+pub mod Demand3

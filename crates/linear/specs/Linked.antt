@@ -7,7 +7,7 @@ use mathlib.Core.List.{List, [], _∷_}
 use lib.Dec.{eqb}
 use Rattle.linear.specs.Types.{Entry}
 use Rattle.machine.specs.Run.{Note}
-use Rattle.bench.specs.Play.{inLog}
+use Rattle.bench.specs.Bench.{inLog}
 use Rattle.word.specs.Word.{Link, none, at, Op, load, store, check, value, done, notDone, saysYes, saysNo, put, linked}
 use Rattle.word.specs.Calls.{Item, asks, goes, answers, away, Calls, decides, decidesIn, goOn}
 use Rattle.linear.specs.Demand3.{stepOfStore, itemOf}

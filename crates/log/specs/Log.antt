@@ -4,9 +4,8 @@ use mathlib.Core.Bool.{cond}
 use mathlib.Core.List.{List, [], _∷_, _++_}
 use lib.Dec.{leb}
 use lib.ListN.{length, getD, drop}
-use Rattle.numbers.specs.Below.{listBelow}
-use Rattle.numbers.specs.Bytes.{bytesOf, numberAt}
-use Rattle.log.specs.Types.{Head, HeadFound, Laid, NoHead, Note, NoteFound, Written, NoNote}
+use Rattle.numbers.specs.Numbers.{listBelow, bytesOf, numberAt}
+use Rattle.log.specs.Types.{Head, Note}
 
 -- "First 12 bytes: entry count (0 to 3), how often X has changed (4 to 7), N (8), three zeros."
 unfoldable pub headOf : ℕ → ℕ → ℕ → List ℕ
@@ -50,11 +49,3 @@ noteIn part =
 -- the records of a log, as many as its head says
 unfoldable pub notesIn : List ℕ → List Note
 notesIn log = listBelow (headIn log .entries) (λ i. noteIn (drop (logLength i) log))
-
--- The head is there where its twelve bytes are.
-unfoldable pub headFound : List ℕ → HeadFound
-headFound log = cond (leb 12 (length log)) (Laid (headIn log)) NoHead
-
--- The record of entry i, counted from 0, follows the head and i records.
-unfoldable pub noteFound : List ℕ → ℕ → NoteFound
-noteFound log i = cond (leb (logLength (i + 1)) (length log)) (Written (noteIn (drop (logLength i) log))) NoNote

@@ -2,8 +2,9 @@
 ghost use mathlib.Core.Path.{_≡_};
 ghost use Prim.Native.Nat.{_+_, _≤_, _<_};
 ghost use lib.ListN.{length};
-ghost use Rattle.numbers.specs.Bytes.{numberAt};
-ghost use Rattle.log.specs.Log.{headIn, headFound, noteIn, noteFound};
+ghost use Rattle.numbers.specs.Numbers.{numberAt};
+ghost use Rattle.log.specs.Log.{headIn, noteIn};
+ghost use Rattle.log.specs.Found.{headFound, noteFound};
 use crate::Head;
 use crate::HeadFound;
 use crate::Note;

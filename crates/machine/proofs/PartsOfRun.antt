@@ -10,7 +10,8 @@ use Rattle.machine.specs.Types.{Process, Entry, NoProcess, State}
 use Rattle.numbers.proofs.Range.{range-of}
 use Rattle.step.specs.Steps.{asWas}
 use Rattle.machine.specs.State.{rowAt, recordAt}
-use Rattle.machine.specs.Entry.{rowGiven, partsAfter, answerWith, refused, entered, seatOf, playedParts}
+use Rattle.machine.specs.Entry.{rowGiven, partsAfter, answerWith, refused, entered}
+use Rattle.machine.specs.Parts.{seatOf, playedParts}
 use Rattle.machine.specs.Frame.{Ready}
 use Rattle.machine.specs.Run.{played}
 use Rattle.machine.proofs.Soundness.{given-below, sure}

@@ -7,9 +7,8 @@ use native.Mathlib.Omega.{arith}
 use lib.Dec.{ltb}
 use lib.ListN.{length}
 use Rattle.machine.specs.Types.{Sequence, NoProcess, Entry, State}
-use Rattle.numbers.specs.Range.{inRange}
-use Rattle.machine.specs.State.{rowAt, recordAt}
-use Rattle.machine.specs.Opening.{firstState}
+use Rattle.numbers.specs.Numbers.{inRange}
+use Rattle.machine.specs.State.{rowAt, recordAt, firstState}
 use Rattle.machine.specs.Entry.{refused, entered, called}
 use Rattle.machine.specs.Frame.{Ready}
 use Rattle.machine.specs.Run.{Note, played, noteOf, after, notes, changeCount}

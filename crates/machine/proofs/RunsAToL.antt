@@ -2,8 +2,7 @@
 use mathlib.Core.Path.{refl}
 use Rattle.step.specs.Steps.{stepOf}
 use Rattle.step.specs.Requests.{requestOf}
-use Rattle.machine.specs.State.{sound}
-use Rattle.machine.specs.Opening.{startOf}
+use Rattle.machine.specs.State.{sound, startOf}
 use Rattle.machine.specs.Entry.{entered, called}
 use Rattle.machine.specs.Run.{notes}
 use Rattle.machine.specs.Table.{RunsAToL}

@@ -5,14 +5,12 @@ use mathlib.Core.Bool.{Bool, true, false, not, _&&_, _||_}
 use native.Mathlib.Omega.{arith}
 use lib.Dec.{T, leb, ltb}
 use borrow.Author.Tests.{ltb-true, leb-true, lt-ltb, le-leb}
-use Rattle.numbers.specs.Range.{inRange}
-use Rattle.numbers.specs.Below.{allBelow}
+use Rattle.numbers.specs.Numbers.{inRange, allBelow}
 use Rattle.numbers.proofs.Range.{range-of}
 use Rattle.numbers.proofs.Below.{all-at, all-intro}
-use Rattle.step.specs.Number.{isOld}
-use Rattle.step.specs.Steps.{reached, reachedAt}
+use Rattle.step.specs.Steps.{storing, isOld, reached, reachedAt}
 use Rattle.machine.specs.Types.{Process, Sequence, Tag, Row, Record, Place, Idle, Load1, Load2, Load3, Load5, Store7, Store8, Store9, Store10, Check14, State, Kind, Ask, Step}
-use Rattle.machine.specs.State.{soundTag, soundNext, storing, soundStore, soundParts, soundProcess, sound, rowAt, recordAt}
+use Rattle.machine.specs.State.{soundTag, soundNext, soundStore, soundParts, soundProcess, sound, rowAt, recordAt}
 use Rattle.machine.specs.Entry.{rowGiven}
 use Rattle.machine.specs.Frame.{Ready}
 use Rattle.machine.proofs.Tests.{and-left, and-right, and-both}

@@ -1,10 +1,9 @@
 -- One entry on a state: document 01, "Numbers for what is turned away" and "The steps".
-use Prim.Native.Nat.{ℕ}
 use mathlib.Core.Bool.{cond}
 use lib.Dec.{ltb}
 use lib.ListN.{set}
 use Rattle.machine.specs.Types.{Process, Sequence, Tag, Row, Record, Kind, Ask, Step, Requested, Stepped, Outcome, NoProcess, Unsound, State, Answer}
-use Rattle.step.specs.Steps.{asWas, stepOf, reached}
+use Rattle.step.specs.Steps.{stepOf, reached}
 use Rattle.step.specs.Requests.{requestOf}
 use Rattle.machine.specs.State.{sound, rowAt, recordAt}
 
@@ -44,11 +43,3 @@ refused st outcome = record { state = st; outcome = outcome }
 -- "Order for an entry: 15, 11, then 12 and 13 for a request, or 14 for a step." The last three are the request's and the step's own.
 unfoldable pub called : State → Process → Kind → Answer
 called st p kind = cond (sound st) (cond (ltb (p .0) (st .n)) (entered st p kind) (refused st NoProcess)) (refused st Unsound)
-
--- The same over the parts alone, for a run that keeps the state itself and knows it sound (`played-by-parts` in proofs/): a process that
--- is not there is given the first record, and 11.
-abbrev pub seatOf : ℕ → Process → Process
-seatOf n p = cond (ltb (p .0) n) p (record { 0 = 0 })
-
-unfoldable pub playedParts : ℕ → Sequence → Process → Tag → Record → Row → Kind → Stepped
-playedParts n s p x own row kind = cond (ltb (p .0) n) (partsAfter s p x own row kind) (asWas x own row NoProcess)

@@ -4,8 +4,7 @@ use Prim.Native.Nat.{ℕ}
 use mathlib.Core.Bool.{cond}
 use lib.Dec.{leb, ltb}
 use Rattle.machine.specs.Types.{Process, Kind, Ask, Step, Request, Load, Store, Check, Record, Row, Place, Idle, Load1, Load2, Load3, Load5, Store7, Store8, Store9, Store10, Check14, State}
-use Rattle.step.specs.Number.{isNear, sameTag}
-use Rattle.step.specs.Requests.{idle}
+use Rattle.step.specs.Steps.{isNear, sameTag, idle}
 use Rattle.machine.specs.State.{sound, rowAt, recordAt}
 use Rattle.machine.specs.Run.{Note}
 

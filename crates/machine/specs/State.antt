@@ -1,14 +1,13 @@
--- Document 01, "Registers and records": the state, its rows and records, and what is unsound.
+-- Document 01, "Registers and records": the state, its rows and records, what is unsound, and how everything starts.
 use Prim.Native.Nat.{ℕ, _+_}
-use mathlib.Core.Bool.{Bool, true, false, not, _&&_, _||_}
-use mathlib.Core.List.{[]}
+use mathlib.Core.Bool.{Bool, not, _&&_, _||_, cond}
+use mathlib.Core.List.{[], _∷_}
 use lib.Dec.{leb, ltb}
-use lib.IntN.{pos}
-use lib.ListN.{getD}
-use Rattle.numbers.specs.Range.{inRange}
-use Rattle.numbers.specs.Below.{allBelow}
-use Rattle.step.specs.Number.{isOld}
-use Rattle.machine.specs.Types.{Sequence, Tag, Row, Record, Place, Idle, Load1, Load2, Load3, Load5, Store7, Store8, Store9, Store10, Check14, State}
+use lib.IntN.{pos, ℤ, negsuc}
+use lib.ListN.{getD, replicate}
+use Rattle.numbers.specs.Numbers.{inRange, allBelow}
+use Rattle.step.specs.Steps.{isOld, storing}
+use Rattle.machine.specs.Types.{Sequence, Tag, Row, Record, Idle, State, Start, Ready, OutOfRange, Started}
 
 -- past the 16th there is no row and no record; these stand for them
 abbrev pub noTag : Tag
@@ -35,19 +34,6 @@ soundTag n s tag = ltb (tag .process .0) n && leb (tag .number .0) (s .0)
 abbrev pub soundNext : Sequence → Sequence → Bool
 soundNext s next = leb 1 (next .0) && leb (next .0) (s .0 + 1)
 
--- "a process between its SC request and step 8"
-abbrev pub storing : Place → Bool
-storing Idle = false
-storing Load1 = false
-storing Load2 = false
-storing (Load3 v) = false
-storing Load5 = false
-storing (Store7 v) = true
-storing Store8 = true
-storing Store9 = false
-storing Store10 = false
-storing Check14 = false
-
 -- "a process between its SC request and step 8 with a next number above S" is unsound
 abbrev pub soundStore : Sequence → Record → Bool
 soundStore s own = not (storing (own .place)) || leb (own .next .0) (s .0)
@@ -65,3 +51,42 @@ soundProcess st p = soundParts (st .n) (st .s) (recordAt st p) (rowAt st p)
 -- "Unsound: N or S out of range; or, for X or a process below N: .."
 unfoldable pub sound : State → Bool
 sound st = inRange (st .n) (st .s) && (soundTag (st .n) (st .s) (st .x) && allBelow (st .n) (soundProcess st))
+
+-- "two value slots, 0 and 1, and an old value, all V at first; an old number"
+abbrev pub firstRow : ℕ → ℤ → Row
+firstRow v o = record { slots = v ∷ v ∷ []; «old_value» = v; «old_number» = o }
+
+-- "a kept tag, [0, 0] at first; a next number"; "It starts idle."
+abbrev pub firstRecord : ℕ → Record
+firstRecord k = record { kept = noTag; next = record { 0 = k }; place = Idle }
+
+-- X "starts as [0, 1]"; the old number is "0 for process 0 and -1 for the others"; the next number is "2 for process 0 and 1 for
+-- the others".
+abbrev pub firstState : ℕ → Sequence → ℕ → State
+firstState n s v =
+    record {
+      n = n;
+      s = s;
+      x = record { process = record { 0 = 0 }; number = record { 0 = 1 } };
+      rows = firstRow v (pos 0) ∷ replicate 15 (firstRow v (negsuc 0));
+      records = firstRecord 2 ∷ replicate 15 (firstRecord 1);
+    }
+
+-- "a state of zeros, all idle"
+abbrev pub zeroState : State
+zeroState =
+    record {
+      n = 0;
+      s = record { 0 = 0 };
+      x = noTag;
+      rows = replicate 16 (firstRow 0 (pos 0));
+      records = replicate 16 (firstRecord 0);
+    }
+
+-- "a direct start gives 4 for N or S and a state of zeros, all idle"
+unfoldable pub startOf : ℕ → Sequence → ℕ → Started
+startOf n s v = cond (inRange n s) (record { state = firstState n s v; start = Ready }) (record { state = zeroState; start = OutOfRange })
+
+abbrev pub startNumber : Start → ℕ
+startNumber Ready = 0
+startNumber OutOfRange = 4

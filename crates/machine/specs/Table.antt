@@ -4,7 +4,7 @@ use Prim.Native.Nat.{ℕ}
 use mathlib.Core.Path.{_≡_}
 use mathlib.Core.Bool.{Bool, true, false}
 use mathlib.Core.List.{List, [], _∷_, _++_, map}
-use Rattle.machine.specs.Opening.{startOf}
+use Rattle.machine.specs.State.{startOf}
 use Rattle.machine.specs.Run.{Note, notes}
 use Rattle.machine.specs.Types.{Entry, Kind, Ask, Step, Request, Load, Store, Check}
 

@@ -1,6 +1,6 @@
 // The start of a machine.
 ghost use mathlib.Core.Path.{_≡_};
-ghost use Rattle.machine.specs.Opening.{firstState, zeroState, startOf, startNumber};
+ghost use Rattle.machine.specs.State.{firstState, zeroState, startOf, startNumber};
 use crate::Start;
 use crate::Started;
 use crate::State;

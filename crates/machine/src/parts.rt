@@ -2,7 +2,8 @@
 // it leaves of X and of these two. Nothing here looks whether the state is sound.
 ghost use mathlib.Core.Path.{_≡_};
 ghost use Rattle.step.specs.Requests.{requestOf};
-ghost use Rattle.machine.specs.Entry.{rowGiven, withParts, partsAfter, seatOf, playedParts};
+ghost use Rattle.machine.specs.Entry.{rowGiven, withParts, partsAfter};
+ghost use Rattle.machine.specs.Parts.{seatOf, playedParts};
 ghost use Rattle.machine.specs.Run.{stepsBy};
 use numbers::Process;
 use numbers::Sequence;

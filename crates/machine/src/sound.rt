@@ -1,8 +1,9 @@
 // What is sound. Each test is a flag, so that a scan never leaves early and every condition is looked at.
 ghost use mathlib.Core.Path.{_≡_};
 ghost use Prim.Native.Nat.{_≤_};
-ghost use Rattle.numbers.specs.Below.{allBelow};
-ghost use Rattle.machine.specs.State.{soundTag, soundNext, storing, soundStore, soundRecord, soundParts, soundProcess, sound};
+ghost use Rattle.numbers.specs.Numbers.{allBelow};
+ghost use Rattle.step.specs.Steps.{storing};
+ghost use Rattle.machine.specs.State.{soundTag, soundNext, soundStore, soundRecord, soundParts, soundProcess, sound};
 use crate::State;
 use numbers::Sequence;
 use numbers::both;

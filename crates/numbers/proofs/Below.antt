@@ -7,7 +7,7 @@ use native.Mathlib.Decide.{decLt}
 use native.Mathlib.Omega.{arith}
 use lib.ListN.{length, getD, length-append, List·getD-append}
 use lib.Seq.{getD-at, ext-getD}
-use Rattle.numbers.specs.Below.{allBelow, listBelow}
+use Rattle.numbers.specs.Numbers.{allBelow, listBelow}
 
 -- what holds of every number below n holds of j, and the other way round
 pub all-at : (n : ℕ) (f : ℕ → Bool) → allBelow n f ≡ true → (j : ℕ) → j < n → f j ≡ true

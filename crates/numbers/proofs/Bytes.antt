@@ -9,7 +9,7 @@ use lib.Arith.{mod-mul}
 use lib.Dec.{lit<}
 use lib.ListN.{length, getD, length-append}
 use lib.Seq.{append-snoc, getD-append-seam}
-use Rattle.numbers.specs.Bytes.{bytesOf, numberAt}
+use Rattle.numbers.specs.Numbers.{bytesOf, numberAt}
 
 pub bytes-length : (width n : ℕ) → length (bytesOf width n) ≡ width
 bytes-length zero n = refl

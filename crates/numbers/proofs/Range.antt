@@ -4,7 +4,7 @@ use mathlib.Core.Path.{_≡_}
 use mathlib.Core.Bool.{true, _&&_, and-eq-true-iff}
 use lib.Dec.{leb}
 use borrow.Author.Tests.{leb-true}
-use Rattle.numbers.specs.Range.{inRange}
+use Rattle.numbers.specs.Numbers.{inRange}
 use Rattle.numbers.specs.Types.{Sequence}
 
 pub record InRange (n : ℕ) (s : Sequence) : Type 0 where

@@ -1,4 +1,2 @@
 pub mod Types
-pub mod Range
-pub mod Below
-pub mod Bytes
+pub mod Numbers

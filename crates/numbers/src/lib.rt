@@ -3,7 +3,7 @@
 ghost use mathlib.Core.Path.{_≡_};
 ghost use mathlib.Core.Bool.{_&&_, _||_};
 ghost use Prim.Native.Nat.{_<_};
-ghost use Rattle.numbers.specs.Range.{inRange};
+ghost use Rattle.numbers.specs.Numbers.{inRange};
 
 // A process number, a sequence number and a count of changes are three types, so that none is taken for another.
 pub struct Process(pub usize);

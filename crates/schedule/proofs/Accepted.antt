@@ -9,14 +9,11 @@ use native.Mathlib.Omega.{arith}
 use borrow.Author.Tests.{eqb-true, leb-true, eq-eqb, ne-eqb}
 use lib.ListN.{length, getD, take, drop, length-append}
 use lib.Dec.{eqb, leb}
-use Rattle.numbers.specs.Range.{inRange}
+use Rattle.numbers.specs.Numbers.{inRange}
 use Rattle.numbers.proofs.Below.{all-at}
 use Rattle.schedule.specs.Types.{Ask, Step, Load, Store, Check, Reading, Refused, Accepted}
-use Rattle.schedule.specs.Bytes.{number}
-use Rattle.schedule.specs.Check.{checkOf, checkFine, placeFine, blockNumber}
-use Rattle.schedule.specs.Block0.{startN, startS, startV, laterBlocks, firstClear, firstFine, firstNumber}
-use Rattle.schedule.specs.Later.{kind, process, value, kindFine, entryClear, entryFine, entryBy, noEntry, meant}
-use Rattle.schedule.specs.Later.{count, entryBytes, entriesFine, restClear, laterFine, laterNumber, usedPart, acceptedPart, entryAt}
+use Rattle.schedule.specs.Blocks.{number, checkOf, checkFine, placeFine, blockNumber, startN, startS, startV, laterBlocks, firstClear, firstFine, firstNumber, kind, process, value, kindFine, entryClear, entryFine, entryBy, noEntry, meant, count, entryBytes, entriesFine, restClear, laterFine, laterNumber}
+use Rattle.schedule.specs.Direct.{usedPart, acceptedPart, entryAt}
 use Rattle.schedule.specs.File.{lengthFine, blockAt, blocksAfter, entriesTo, fileEntries, found, inTurn, acceptedAs, reading, isAccepted}
 use Rattle.schedule.proofs.Laws.{part-length}
 use Rattle.schedule.proofs.Entries.{block-entries, block-entry, entry-stands, entry-bytes, part-bytes, used-is, used-entry}

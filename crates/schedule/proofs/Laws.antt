@@ -10,10 +10,9 @@ use borrow.Author.Tests.{ne-eqb}
 use lib.ListN.{length, getD, take, drop, length-drop, List·getD-eq-default}
 use lib.Seq.{length-take-le}
 use lib.Dec.{eqb}
-use Rattle.numbers.specs.Bytes.{numberAt}
+use Rattle.numbers.specs.Numbers.{numberAt}
 use Rattle.numbers.proofs.Below.{all-front}
-use Rattle.schedule.specs.Bytes.{zerosOf}
-use Rattle.schedule.specs.Check.{weighed}
+use Rattle.schedule.specs.Blocks.{zerosOf, weighed}
 
 -- a sum is zero where both its parts are
 pub eqb-sum : (a x : ℕ) → eqb (a + x) 0 ≡ (eqb a 0 && eqb x 0)

@@ -5,8 +5,7 @@ use mathlib.Core.List.{List, [], _++_}
 use lib.ListN.{length, take, drop}
 use lib.Dec.{eqb, leb}
 use Rattle.schedule.specs.Types.{Entry, Reading, Refused, Accepted}
-use Rattle.schedule.specs.Block0.{startN, startS, startV, firstNumber}
-use Rattle.schedule.specs.Later.{laterNumber, blockEntries}
+use Rattle.schedule.specs.Blocks.{startN, startS, startV, firstNumber, laterNumber, blockEntries}
 
 -- "1 | file length not a multiple of 512, or outside 512 to 65,536": neither of these
 abbrev pub lengthFine : ℕ → Bool

@@ -1,7 +1,5 @@
 pub mod Types
-pub mod Bytes
-pub mod Check
-pub mod Block0
-pub mod Later
 pub mod File
 pub mod WorkedFile
+pub mod Blocks
+pub mod Direct

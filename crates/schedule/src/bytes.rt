@@ -2,8 +2,8 @@
 ghost use mathlib.Core.Path.{_≡_};
 ghost use Prim.Native.Nat.{_+_, _≤_, _<_};
 ghost use lib.ListN.{length};
-ghost use Rattle.numbers.specs.Bytes.{numberAt};
-ghost use Rattle.schedule.specs.Bytes.{zerosOf};
+ghost use Rattle.numbers.specs.Numbers.{numberAt};
+ghost use Rattle.schedule.specs.Blocks.{zerosOf};
 use numbers::wide;
 
 // The number of the two bytes from place `at` on. Each further width is made of two halves.

@@ -11,7 +11,7 @@ use mir.Val.{Fits, SFits, toZ, ofZ}
 use mir.Facts.{toZ-ofZ, toZ-pos}
 use mir.Syntax.{w64}
 use borrow.Author.Tests.{ltb-true, ltb-false, le-leb, leb-true, eq-eqb, ne-eqb, eqb-true}
-use Rattle.step.specs.Number.{eqZ, isNear, isOld}
+use Rattle.step.specs.Steps.{eqZ, isNear, isOld}
 
 -- two tests of equality agree where each equation gives the other
 pub eqb-same : (a b m n : ℕ) → (a ≡ b → m ≡ n) → (m ≡ n → a ≡ b) → eqb a b ≡ eqb m n

@@ -10,8 +10,7 @@ use lib.Dec.{leb}
 use lib.IntN.{ℤ, pos, _-ℤ_}
 use lib.ListN.{length, getD, set, length-set}
 use lib.Seq.{getD-set-same, getD-set-other}
-use Rattle.step.specs.Number.{isNear, sameTag, withOld}
-use Rattle.step.specs.Steps.{stepAt, stepOf, reached, reachedAt, largestNext, slot, withSlot, withOldValue}
+use Rattle.step.specs.Steps.{isNear, sameTag, withOld, stepAt, stepOf, reached, reachedAt, largestNext, slot, withSlot, withOldValue}
 use Rattle.step.specs.Registers.{Content, aTag, aValue, aNumber}
 use Rattle.step.specs.Types.{Process, Tag, Row, Record, Place, Idle, Load1, Load2, Load3, Load5, Store7, Store8, Store9, Store10, Check14, Stepped}
 

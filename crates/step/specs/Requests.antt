@@ -1,21 +1,8 @@
 -- Document 01, "A request starts a call and reaches no register."
-use mathlib.Core.Bool.{Bool, true, false, cond}
+use mathlib.Core.Bool.{cond}
 use lib.Dec.{leb}
-use Rattle.step.specs.Steps.{at}
-use Rattle.step.specs.Types.{Sequence, Place, Idle, Load1, Load2, Load3, Load5, Store7, Store8, Store9, Store10, Check14, Record, Outcome, Taken, CallOpen, UsedUp, Request, Load, Store, Check, Requested}
-
--- whether a process stands in no call
-abbrev pub idle : Place → Bool
-idle Idle = true
-idle Load1 = false
-idle Load2 = false
-idle (Load3 v) = false
-idle Load5 = false
-idle (Store7 v) = false
-idle Store8 = false
-idle Store9 = false
-idle Store10 = false
-idle Check14 = false
+use Rattle.step.specs.Steps.{at, idle}
+use Rattle.step.specs.Types.{Sequence, Place, Load1, Store7, Check14, Record, Outcome, Taken, CallOpen, UsedUp, Request, Load, Store, Check, Requested}
 
 -- a refused request: "state the same"
 abbrev pub notTaken : Record → Outcome → Requested

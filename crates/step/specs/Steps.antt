@@ -1,11 +1,35 @@
--- Document 01, "The steps". A step of process p sees X, p's own record and one row of registers, and says what it leaves of each.
+-- Document 01, "The steps". A step of process p sees X, p's own record and one row of registers, and says what it leaves of each. An old
+-- number is an integer, from -1; every other number is a natural number.
 use Prim.Native.Nat.{ℕ, _+_, _%_}
-use mathlib.Core.Bool.{cond}
-use lib.Dec.{leb}
-use lib.IntN.{pos, _-ℤ_}
+use mathlib.Core.Bool.{true, Bool, false, _&&_, _||_, cond}
+use lib.Dec.{eqb, leb}
+use lib.IntN.{ℤ, pos, negsuc, _-ℤ_}
+use lib.Signed.{leZ}
+use Rattle.step.specs.Types.{Tag, Row, Process, Sequence, Place, Idle, Load1, Load2, Load3, Load5, Store7, Store8, Store9, Store10, Check14, Record, Outcome, GoesOn, Current, Old, Done, NotDone, Yes, No, NoCall, Unsound, Stepped}
 use lib.ListN.{getD, set}
-use Rattle.step.specs.Number.{isNear, withOld, sameTag}
-use Rattle.step.specs.Types.{Process, Sequence, Tag, Row, Place, Idle, Load1, Load2, Load3, Load5, Store7, Store8, Store9, Store10, Check14, Record, Outcome, GoesOn, Current, Old, Done, NotDone, Yes, No, NoCall, Unsound, Stepped}
+
+-- whether two integers are equal
+abbrev pub eqZ : ℤ → ℤ → Bool
+eqZ (pos a) (pos b) = eqb a b
+eqZ (pos a) (negsuc b) = false
+eqZ (negsuc a) (pos b) = false
+eqZ (negsuc a) (negsuc b) = eqb a b
+
+-- "If it is k - 2 or k - 1": step 3's test of the old number o
+abbrev pub isNear : ℤ → ℕ → Bool
+isNear o k = eqZ o (pos k -ℤ pos 2) || eqZ o (pos k -ℤ pos 1)
+
+-- "an old number outside -1 to S" is unsound
+abbrev pub isOld : ℤ → ℕ → Bool
+isOld o s = leZ (negsuc 0) o && leZ o (pos s)
+
+-- "p's old number becomes next number - 2"
+abbrev pub withOld : Row → ℤ → Row
+withOld r o = record { slots = r .slots; «old_value» = r .«old_value»; «old_number» = o }
+
+-- "X equals p's kept tag": the same process and the same sequence number
+abbrev pub sameTag : Tag → Tag → Bool
+sameTag a b = eqb (a .process .0) (b .process .0) && eqb (a .number .0) (b .number .0)
 
 -- the record with another call place
 abbrev pub at : Record → Place → Record
@@ -95,32 +119,42 @@ largestNext = 4294967296
 unfoldable pub stepOf : Process → Tag → Record → Row → Stepped
 stepOf p x own row = cond (leb (own .next .0) largestNext) (stepAt p x own row (own .place)) (asWas x own row Unsound)
 
--- Which process's row a step is given. Steps 2, 3 and 5 reach the row of q, the process in the kept tag; steps 7, 9 and 10 reach
--- p's own. The others reach no row: they are given p's own and hand it back as it was.
+-- About each call place: the rank of the step that is taken next, 0 where no call is open; whether the process is "between its SC request
+-- and step 8"; and whether that step reads a register of q, the process in the kept tag.
+pub record About : Type 0 where
+  pub rank : ℕ
+  pub storing : Bool
+  pub readsOther : Bool
+
+abbrev pub placed : ℕ → Bool → Bool → About
+placed rank storing readsOther = record { rank = rank; storing = storing; readsOther = readsOther }
+
+abbrev pub about : Place → About
+about Idle = placed 0 false false
+about Load1 = placed 1 false false
+about Load2 = placed 2 false true
+about (Load3 v) = placed 3 false true
+about Load5 = placed 4 false true
+about (Store7 v) = placed 1 true false
+about Store8 = placed 2 true false
+about Store9 = placed 3 false false
+about Store10 = placed 4 false false
+about Check14 = placed 1 false false
+
+-- "own steps of this call so far with this one"; and whether a process stands in no call
+abbrev pub ownSteps : Place → ℕ
+ownSteps place = about place .rank
+
+abbrev pub idle : Place → Bool
+idle place = eqb (about place .rank) 0
+
+abbrev pub storing : Place → Bool
+storing place = about place .storing
+
+-- Which process's row a step is given. Steps 2, 3 and 5 reach the row of q, and steps 7, 9 and 10 p's own. The others reach no row: they
+-- are given p's own and hand it back as it was.
 abbrev pub reachedAt : Process → Tag → Place → Process
-reachedAt p kept Idle = p
-reachedAt p kept Load1 = p
-reachedAt p kept Load2 = kept .process
-reachedAt p kept (Load3 v) = kept .process
-reachedAt p kept Load5 = kept .process
-reachedAt p kept (Store7 v) = p
-reachedAt p kept Store8 = p
-reachedAt p kept Store9 = p
-reachedAt p kept Store10 = p
-reachedAt p kept Check14 = p
+reachedAt p kept place = cond (about place .readsOther) (kept .process) p
 
 abbrev pub reached : Process → Record → Process
 reached p own = reachedAt p (own .kept) (own .place)
-
--- "own steps of this call so far with this one": the rank of the step that a process takes next
-abbrev pub ownSteps : Place → ℕ
-ownSteps Idle = 0
-ownSteps Load1 = 1
-ownSteps Load2 = 2
-ownSteps (Load3 v) = 3
-ownSteps Load5 = 4
-ownSteps (Store7 v) = 1
-ownSteps Store8 = 2
-ownSteps Store9 = 3
-ownSteps Store10 = 4
-ownSteps Check14 = 1

@@ -1,8 +1,8 @@
 // A call of one process: its request, and its next step.
 ghost use mathlib.Core.Path.{_≡_};
 ghost use Prim.Native.Nat.{_≤_};
-ghost use Rattle.step.specs.Steps.{stepAt, stepOf, reached, ownSteps};
-ghost use Rattle.step.specs.Requests.{idle, begun, whenIdle, requestOf};
+ghost use Rattle.step.specs.Steps.{stepAt, stepOf, reached, ownSteps, idle};
+ghost use Rattle.step.specs.Requests.{begun, whenIdle, requestOf};
 use crate::Outcome;
 use crate::Place;
 use crate::Record;
@@ -26,18 +26,8 @@ use numbers::Sequence;
 fn is_idle(place: Place) -> bool
     ensures { λ r. ⌜ r ≡ idle place ⌝ }
 {
-    match place {
-        Place::Idle => true,
-        Place::Load1 => false,
-        Place::Load2 => false,
-        Place::Load3(_) => false,
-        Place::Load5 => false,
-        Place::Store7(_) => false,
-        Place::Store8 => false,
-        Place::Store9 => false,
-        Place::Store10 => false,
-        Place::Check14 => false,
-    }
+    let rank = own_steps(place);
+    rank == 0
 }
 
 fn begin(own: Record, place: Place) -> Requested

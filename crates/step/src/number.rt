@@ -2,7 +2,7 @@
 ghost use mathlib.Core.Path.{_≡_};
 ghost use Prim.Native.Nat.{_≤_};
 ghost use lib.IntN.{pos, _-ℤ_};
-ghost use Rattle.step.specs.Number.{isNear, isOld, withOld, sameTag};
+ghost use Rattle.step.specs.Steps.{isNear, isOld, withOld, sameTag};
 use crate::Row;
 use crate::Tag;
 use numbers::Sequence;

@@ -7,7 +7,7 @@ use mathlib.Core.Bool.{cond}
 use mathlib.Core.List.{List, [], _∷_, _++_}
 use lib.Dec.{leb}
 use lib.ListN.{length, drop}
-use Rattle.log.specs.Log.{headFound, noteFound}
+use Rattle.log.specs.Found.{headFound, noteFound}
 use Rattle.text.specs.Types.{HeadFound, Laid, NoHead, Note, NoteFound, Written, NoNote}
 use Rattle.text.specs.Decimal.{decimalOf}
 

@@ -4,7 +4,7 @@ ghost use mathlib.Core.Path.{_≡_};
 ghost use Prim.Native.Nat.{_≤_};
 ghost use lib.ListN.{length};
 ghost use lib.Seq.{sets};
-ghost use Rattle.log.specs.Log.{headFound, noteFound};
+ghost use Rattle.log.specs.Found.{headFound, noteFound};
 ghost use Rattle.text.specs.Decimal.{decimalOf};
 ghost use Rattle.text.specs.Lines.{headLine, lineOf, refusedLine, headText, lineText, printed, printedCount};
 use crate::put::put_field;

@@ -8,8 +8,7 @@ use mathlib.Core.List.{List, [], _∷_, _++_, List·Memᴰ, List·Memᴰ·head, 
 use native.Mathlib.Omega.{arith}
 use Rattle.word.specs.Word.{value, done, notDone, saysYes, saysNo}
 use Rattle.word.specs.Order.{Call, Every}
-use Rattle.word.specs.Calls.{Item, asks, goes, answers, away, Reply, Calls, isDone, callBy, decides, decidesIn, goOn, doneCount}
-use Rattle.word.specs.OneOrder.{callOf, IsPlayed, OneByOne, AnsweredOrDone}
+use Rattle.word.specs.Calls.{Item, asks, goes, answers, away, Reply, Calls, isDone, callBy, decides, decidesIn, goOn, doneCount, callOf, IsPlayed, OneByOne, AnsweredOrDone}
 use Rattle.word.proofs.Lists.{every-map, every-both, every-snoc}
 use Rattle.word.proofs.Good.{Own}
 

@@ -1,4 +1,3 @@
 pub mod Word
 pub mod Order
 pub mod Calls
-pub mod OneOrder

@@ -4,7 +4,7 @@ use borrow.Author.Needs.{needs}
 use denote.Ref.{now}
 use lib.ListN.{length}
 use borrow.Author.Tests.{le-leb, lt-leb}
-use Rattle.log.specs.Log.{headFound}
+use Rattle.log.specs.Found.{headFound}
 use Rattle.log.proofs.read.read_head.Statement.{statement}
 use Rattle.log.proofs.read.read_head.Tie as tie
 

@@ -6,7 +6,8 @@ use native.Mathlib.Omega.{arith}
 use denote.Ref.{now}
 use lib.ListN.{length}
 use borrow.Author.Tests.{le-leb, lt-leb}
-use Rattle.log.specs.Log.{noteFound, logLength}
+use Rattle.log.specs.Log.{logLength}
+use Rattle.log.specs.Found.{noteFound}
 use Rattle.log.proofs.Laws.{tail-given}
 use Rattle.log.proofs.read.read_record.Statement.{statement}
 use Rattle.log.proofs.read.read_record.Tie as tie

@@ -1,7 +1,7 @@
 -- Either all is in range and the first state is given, or the state of zeros is.
 -- Assumes nothing.
 use borrow.Author.Needs.{needs}
-use Rattle.machine.specs.Opening.{startOf}
+use Rattle.machine.specs.State.{startOf}
 use Rattle.machine.proofs.opening.start.Statement.{statement}
 use Rattle.machine.proofs.opening.start.Tie as tie
 

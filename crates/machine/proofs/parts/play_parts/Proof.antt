@@ -2,7 +2,7 @@
 -- Assumes nothing.
 use borrow.Author.Needs.{needs}
 use borrow.Author.Tests.{lt-ltb, le-ltb}
-use Rattle.machine.specs.Entry.{playedParts}
+use Rattle.machine.specs.Parts.{playedParts}
 use Rattle.machine.proofs.parts.play_parts.Statement.{statement}
 use Rattle.machine.proofs.parts.play_parts.Tie as tie
 

@@ -5,7 +5,7 @@ use Prim.Native.Nat.{ℕ, _≤_, _-_}
 use mathlib.Core.Path.{_≡_, refl, ap, _∙_}
 use native.Mathlib.Numerals.{add-one}
 use native.Mathlib.Omega.{arith}
-use Rattle.numbers.specs.Below.{allBelow}
+use Rattle.numbers.specs.Numbers.{allBelow}
 use Rattle.machine.specs.State.{soundProcess}
 use Rattle.machine.proofs.sound.processes_are_sound.Statement.{statement}
 use Rattle.machine.proofs.sound.processes_are_sound.Tie as tie

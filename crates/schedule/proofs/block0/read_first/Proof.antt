@@ -2,7 +2,7 @@
 -- Assumes nothing.
 use borrow.Author.Needs.{needs}
 use borrow.Author.Tests.{eq-eqb, ne-eqb}
-use Rattle.schedule.specs.Block0.{firstOf}
+use Rattle.schedule.specs.Direct.{firstOf}
 use Rattle.schedule.proofs.block0.read_first.Statement.{statement}
 use Rattle.schedule.proofs.block0.read_first.Tie as tie
 

@@ -2,7 +2,7 @@
 -- Assumes nothing.
 use borrow.Author.Needs.{needs}
 use borrow.Author.Tests.{eq-eqb, ne-eqb}
-use Rattle.schedule.specs.Later.{acceptedPart}
+use Rattle.schedule.specs.Direct.{acceptedPart}
 use Rattle.schedule.proofs.later.entries_of.Statement.{statement}
 use Rattle.schedule.proofs.later.entries_of.Tie as tie
 

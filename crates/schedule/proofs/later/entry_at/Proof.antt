@@ -7,7 +7,7 @@ use Prim.Native.Nat.{_+_, _*_}
 use borrow.Author.Tests.{le-leb, lt-leb}
 use lib.ListN.{length}
 use denote.Ref.{now}
-use Rattle.schedule.specs.Later.{entryAt}
+use Rattle.schedule.specs.Direct.{entryAt}
 use Rattle.schedule.proofs.Laws.{part-length}
 use Rattle.schedule.proofs.later.entry_at.Statement.{statement}
 use Rattle.schedule.proofs.later.entry_at.Tie as tie

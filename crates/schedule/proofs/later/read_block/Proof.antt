@@ -2,7 +2,7 @@
 -- Assumes nothing.
 use borrow.Author.Needs.{needs}
 use borrow.Author.Tests.{eq-eqb, ne-eqb}
-use Rattle.schedule.specs.Later.{laterOf}
+use Rattle.schedule.specs.Direct.{laterOf}
 use Rattle.schedule.proofs.later.read_block.Statement.{statement}
 use Rattle.schedule.proofs.later.read_block.Tie as tie
 

@@ -1,0 +1,35 @@
+-- What the block readers answer to a direct caller, and the parts that they hand back.
+use Prim.Native.Nat.{ℕ, _+_, _*_}
+use mathlib.Core.Bool.{cond}
+use mathlib.Core.List.{List, []}
+use lib.ListN.{length, take, drop}
+use lib.Dec.{eqb, leb}
+use Rattle.schedule.specs.Types.{FirstBlock, FirstRefused, Start, Entry, Block, BlockRefused, Entries}
+use Rattle.schedule.specs.Blocks.{startN, startS, startV, firstNumber, count, laterNumber, noEntry, meant}
+
+-- what block 0 says. A list that is not 512 bytes long is no block: by 1, as a file of such a length.
+unfoldable pub firstOf : List ℕ → ℕ → FirstBlock
+firstOf b after =
+    cond (eqb (length b) 512)
+    (cond (eqb (firstNumber b after) 0) (Start (startN b) (startS b) (startV b)) (FirstRefused (firstNumber b after)))
+    (FirstRefused 1)
+
+-- what a later block says. A list that is not 512 bytes long is no block: by 1, as a file of such a length.
+unfoldable pub laterOf : List ℕ → ℕ → Block
+laterOf b k =
+    cond (eqb (length b) 512)
+    (cond (eqb (laterNumber b k) 0) (Entries (count b)) (BlockRefused (laterNumber b k)))
+    (BlockRefused 1)
+
+-- the bytes of the entries that the count speaks of, whether the block is accepted or not; none where they don't fit
+unfoldable pub usedPart : List ℕ → List ℕ
+usedPart b = cond (leb (4 + 12 * count b) (length b)) (take (12 * count b) (drop 4 b)) []
+
+-- "The entry bytes of an accepted block are handed back as that part of the lent file, not as a copy; for a refused block an
+-- empty part is."
+unfoldable pub acceptedPart : List ℕ → ℕ → List ℕ
+acceptedPart b k = cond (eqb (length b) 512) (cond (eqb (laterNumber b k) 0) (usedPart b) []) []
+
+-- entry j of such a part: twelve bytes from place 12j on
+unfoldable pub entryAt : List ℕ → ℕ → Entry
+entryAt p j = cond (leb (12 * j + 12) (length p)) (meant (take 12 (drop (12 * j) p))) noEntry
