@@ -13,9 +13,9 @@ use Rattle.machine.specs.Frame.{Ready}
 use Rattle.machine.specs.Run.{notes, after, changeCount}
 use Rattle.machine.proofs.RunLaws.{ready-after, after-append, notes-append, notes-length, count-append, count-most}
 use Rattle.numbers.proofs.Below.{same-below}
-use Rattle.schedule.specs.Blocks.{meant, count, entryBytes, blockEntries}
+use Rattle.schedule.specs.File.{meant, count, entryBytes, blockEntries, blockAt, blocksAfter, entriesTo, fileEntries, reading}
+use Rattle.schedule.specs.Direct.{isAccepted}
 use Rattle.schedule.specs.Direct.{entryAt, usedPart}
-use Rattle.schedule.specs.File.{blockAt, blocksAfter, entriesTo, fileEntries, reading, isAccepted}
 use Rattle.schedule.proofs.Entries.{block-entry, used-length, used-entry, entries-none, entries-next, entries-more}
 use Rattle.schedule.proofs.Accepted.{accepted-room}
 use Rattle.log.specs.Log.{recordsOf}

@@ -6,8 +6,7 @@ use mathlib.Core.List.{List}
 use native.Mathlib.Omega.{arith}
 use lib.Dec.{leb, eqb}
 use lib.ListN.{length}
-use Rattle.schedule.specs.Blocks.{checkFine, placeFine, firstFine, firstNumber, laterFine, laterNumber}
-use Rattle.schedule.specs.File.{lengthFine, blockAt, blocksAfter, found, inTurn, acceptedAs, reading}
+use Rattle.schedule.specs.File.{checkFine, placeFine, firstFine, firstNumber, laterFine, laterNumber, lengthFine, blockAt, blocksAfter, found, inTurn, acceptedAs, reading}
 use Rattle.bench.specs.Types.{Reading, Refused, Accepted, Ran}
 use Rattle.schedule.proofs.Accepted.{length-blocks}
 use Rattle.log.specs.Log.{logLength}

@@ -9,8 +9,7 @@ use lib.Dec.{ltb}
 use lib.ListN.{length, take, drop, length-append, length-drop, length-map}
 use Rattle.bench.specs.Types.{Process, Sequence, Version, Entry, Kind, Ask, Step, Stepped, Outcome, State, Answer}
 use Rattle.numbers.proofs.Below.{listed-length}
-use Rattle.step.specs.Steps.{sameTag}
-use Rattle.step.specs.Outcomes.{toldOf}
+use Rattle.step.specs.Steps.{sameTag, toldOf}
 use Rattle.machine.specs.State.{rowAt, recordAt}
 use Rattle.machine.specs.Entry.{rowGiven, withEntry}
 use Rattle.machine.specs.Parts.{seatOf, playedParts}

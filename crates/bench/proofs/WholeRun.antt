@@ -12,7 +12,8 @@ use Rattle.machine.specs.Frame.{Ready}
 use Rattle.machine.specs.Run.{Note, notes, changeCount}
 use Rattle.bench.specs.Types.{Started, Start, Accepted, Played}
 use Rattle.machine.proofs.RunLaws.{ready-start, notes-length, count-most}
-use Rattle.schedule.specs.File.{fileEntries, reading, isAccepted}
+use Rattle.schedule.specs.File.{fileEntries, reading}
+use Rattle.schedule.specs.Direct.{isAccepted}
 use Rattle.schedule.proofs.Accepted.{accepted-answer, accepted-bound, accepted-start}
 use Rattle.log.specs.Log.{laid, headOf, recordsOf, logLength}
 use Rattle.log.proofs.Laws.{head-length, laid-fits, tail-given, tail-back}

@@ -3,7 +3,7 @@ use Prim.Native.Nat.{ℕ, _+_, _*_}
 use mathlib.Core.List.{List, _++_, map}
 use lib.ListN.{length, drop}
 use Rattle.numbers.specs.Numbers.{listBelow}
-use Rattle.step.specs.Outcomes.{toldOf}
+use Rattle.step.specs.Steps.{toldOf}
 use Rattle.bench.specs.Bench.{inLog}
 use Rattle.bench.specs.Types.{Entry, Kind, Place, Outcome, Note, Played}
 use Rattle.machine.specs.Run.{stepsBy, notes, after, changeCount}

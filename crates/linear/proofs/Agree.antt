@@ -7,9 +7,8 @@ use mathlib.Core.List.{List, [], _∷_, _++_, map}
 use Rattle.linear.specs.Types.{Ask, Step, Load, Store, Check}
 use Rattle.machine.specs.Table.{Line, asks, goes, gives, saysNo, away, LL, SCtwo, SC, SCfails, behind}
 use Rattle.bench.specs.Bench.{inLog}
-use Rattle.word.specs.Word.{Op, load, store, check, Answer, value, done, notDone}
+use Rattle.word.specs.Word.{Op, load, store, check, Answer, value, done, notDone, Call}
 use Rattle.word.specs.Word as word
-use Rattle.word.specs.Order.{Call}
 use Rattle.word.specs.Calls.{Reply, callsFrom}
 use Rattle.linear.specs.Demand3.{callsIn}
 

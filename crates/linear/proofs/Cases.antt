@@ -9,8 +9,7 @@ use lib.Dec.{eqb, leb}
 use lib.IntN.{pos, _-ℤ_}
 use borrow.Author.Tests.{eqb-true, eq-eqb}
 use Rattle.linear.specs.Types.{Process, Tag, Row, Record, Kind, Ask, Step, Request, Load, Store, Check, Requested, Place, Idle, Load1, Load2, Load3, Load5, Store7, Store8, Store9, Store10, Check14, Outcome, Taken, GoesOn, Current, Old, Done, NotDone, Yes, No, NoProcess, CallOpen, UsedUp, NoCall, State, Answer}
-use Rattle.step.specs.Steps.{isNear, sameTag, withOld, at, withSlot, withOldValue, answered, goesOn, idle}
-use Rattle.step.specs.Requests.{requestOf, whenIdle, begun, notTaken}
+use Rattle.step.specs.Steps.{isNear, sameTag, withOld, at, withSlot, withOldValue, answered, goesOn, idle, requestOf, whenIdle, begun, notTaken}
 use Rattle.machine.specs.State.{rowAt, recordAt}
 use Rattle.machine.specs.Entry.{withParts, refused, called}
 use Rattle.machine.specs.Frame.{Ready}

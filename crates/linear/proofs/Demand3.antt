@@ -15,7 +15,7 @@ use Rattle.machine.specs.Run.{Note, played, noteOf, after, notes, changeCount, 
 use Rattle.machine.proofs.RunLaws.{ready-start, ready-played}
 use Rattle.bench.specs.Bench.{inLog}
 use Rattle.log.specs.declared.Note as log
-use Rattle.word.specs.Order.{Call, Every}
+use Rattle.word.specs.Word.{Call, Every}
 use Rattle.word.specs.Calls.{Reply, Calls, noCalls, goOn, callsFrom, doneCount, Answered, OneOrder}
 use Rattle.word.proofs.Lists.{every-map, every-perm}
 use Rattle.word.proofs.Good.{good-first}

@@ -11,9 +11,8 @@ use native.Mathlib.Omega.{arith}
 use Rattle.step.specs.Steps.{sameTag, at}
 use Rattle.linear.specs.Types.{Row, Record, Place, Idle, Store9, State}
 use Rattle.machine.specs.State.{rowAt, recordAt}
-use Rattle.word.specs.Word.{Link, Op, load, store, Answer, value, done, notDone, put, linked, answerOf, first}
+use Rattle.word.specs.Word.{Link, Op, load, store, Answer, value, done, notDone, put, linked, answerOf, first, Call}
 use Rattle.word.specs.Word as word
-use Rattle.word.specs.Order.{Call}
 use Rattle.word.proofs.Put.{split, put-same, put-other, put-id}
 use Rattle.word.proofs.Play.{after}
 use Rattle.word.proofs.Changes.{writes, wrote, total, valueAfter, total-quiet, total-snoc, value-snoc, value-new, writes-own, writes-nothing}

@@ -16,8 +16,7 @@ use Rattle.machine.specs.State.{recordAt, firstState}
 use Rattle.machine.specs.Entry.{called}
 use Rattle.machine.specs.Frame.{Ready}
 use Rattle.machine.specs.Run.{turnedAway, changes}
-use Rattle.word.specs.Word.{Op, load, store, check, Answer, value, done, notDone, saysYes, saysNo, put}
-use Rattle.word.specs.Order.{Call}
+use Rattle.word.specs.Word.{Op, load, store, check, Answer, value, done, notDone, saysYes, saysNo, put, Call}
 use Rattle.word.specs.Calls.{Item, away, Reply, Calls, isStore, noCalls, callBy, decides, decidesIn, goOn, callOf}
 use Rattle.word.proofs.Put.{split, put-same, put-other}
 use Rattle.word.proofs.Lists.{every-map, every-snoc}

@@ -9,8 +9,7 @@ use lib.Dec.{leb, ltb}
 use borrow.Author.Tests.{lt-ltb, ltb-true, le-leb}
 use Rattle.linear.specs.Types.{Process, Row, Record, Kind, Ask, Step, Request, Place, Idle, Load1, Load2, Load3, Load5, Store7, Store8, Store9, Store10, Check14, Stepped, NoProcess, State, Answer}
 use Rattle.numbers.proofs.Range.{range-of}
-use Rattle.step.specs.Steps.{isNear, sameTag, stepAt, stepOf, reachedAt, largestNext}
-use Rattle.step.specs.Requests.{requestOf}
+use Rattle.step.specs.Steps.{isNear, sameTag, stepAt, stepOf, reachedAt, largestNext, requestOf}
 use Rattle.step.proofs.Reach.{either-way}
 use Rattle.machine.specs.State.{rowAt, recordAt}
 use Rattle.machine.specs.Entry.{withParts, withEntry, refused, entered, called}

@@ -8,7 +8,7 @@ use lib.Dec.{leb}
 use lib.ListN.{List·getD-eq-default}
 use borrow.Author.Tests.{leb-true, ne-eqb}
 use Rattle.linear.specs.Types.{Process, Entry, Kind, Ask, Step, Outcome, Taken, GoesOn, Current, Old, Done, NotDone, Yes, No, NoProcess, CallOpen, UsedUp, NoCall, Unsound, State, Note}
-use Rattle.step.specs.Outcomes.{toldOf}
+use Rattle.step.specs.Steps.{toldOf}
 use Rattle.machine.specs.Run.{turnedAway, stepsOf}
 use Rattle.word.specs.Calls.{Item, away}
 use Rattle.linear.specs.Demand3.{stepItems, itemBy}

@@ -17,10 +17,9 @@ use Rattle.schedule.proofs.Accepted.{accepted-answer}
 use Rattle.log.specs.Log.{headOf, recordsOf, logOf, logLength, headIn, notesIn}
 use Rattle.log.specs.declared.Note as log
 use Rattle.log.proofs.Back.{head-in, notes-back}
-use Rattle.bench.specs.Bench.{inLog}
-use Rattle.bench.specs.Bench.{notesOf, logAfter}
+use Rattle.bench.specs.Bench.{inLog, notesOf, logAfter}
 use Rattle.bench.proofs.WholeRun.{range, start-is, entry-count, few-entries}
-use Rattle.word.specs.Order.{Every}
+use Rattle.word.specs.Word.{Every}
 use Rattle.linear.specs.Demand3.{Demand3, LogOfFile, Demand3OfFile}
 use Rattle.linear.proofs.Demand3.{demand-3}
 use Rattle.linear.proofs.Values.{entries-small, first-small}

@@ -11,9 +11,8 @@ use native.Mathlib.Omega.{arith}
 use borrow.Author.Tests.{ne-eqb}
 use Rattle.linear.specs.Types.{Row, Record, Place, Idle, Load1, Load2, Load3, Load5, Store7, Store8, Store9, Store10, Check14, State}
 use Rattle.machine.specs.State.{rowAt, recordAt}
-use Rattle.word.specs.Word.{Link, at, Op, load, store, check, linked, first}
+use Rattle.word.specs.Word.{Link, at, Op, load, store, check, linked, first, Call}
 use Rattle.word.specs.Word as word
-use Rattle.word.specs.Order.{Call}
 use Rattle.word.proofs.Play.{after, after-snoc}
 use Rattle.word.proofs.Changes.{writes, total, valueAfter, total-quiet, total-snoc}
 use Rattle.word.proofs.Relink.{NoLoad, link-kept, link-others}

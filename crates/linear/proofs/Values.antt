@@ -13,9 +13,8 @@ use Rattle.numbers.specs.Numbers.{listBelow}
 use Rattle.numbers.proofs.Bytes.{number-below}
 use Rattle.linear.specs.Types.{Entry, Ask, Step, Load, Store, Check}
 use Rattle.machine.proofs.Values.{SmallKind, SmallEntries}
-use Rattle.schedule.specs.Blocks.{startV, kind, process, value, entryBy, noEntry, meant, count, entryBytes, blockEntries}
-use Rattle.schedule.specs.File.{blockAt, entriesTo, fileEntries, blocksAfter}
-use Rattle.word.specs.Order.{Every}
+use Rattle.schedule.specs.File.{startV, kind, process, value, entryBy, noEntry, meant, count, entryBytes, blockEntries, blockAt, entriesTo, fileEntries, blocksAfter}
+use Rattle.word.specs.Word.{Every}
 
 -- a list of bytes, place by place; past its end stand zeros
 bytes-at : (f : List ℕ) → Every (λ b. b < 256) f → (i : ℕ) → getD f i 0 < 256

@@ -9,12 +9,11 @@ use mathlib.Core.List.{List, [], _∷_}
 use lib.Dec.{eqb}
 use lib.ListN.{getD, length}
 use Rattle.linear.specs.Types.{Entry, Kind, Ask, Step, Request, Load, Store, Check, Note, Accepted}
-use Rattle.word.specs.Word.{Op, load, store, check, Answer, value, done, notDone, saysYes, saysNo}
+use Rattle.word.specs.Word.{Op, load, store, check, Answer, value, done, notDone, saysYes, saysNo, Every}
 use Rattle.word.specs.Calls.{Item, asks, goes, answers, away, Calls, isStore, noCalls, goOn, callsFrom, doneCount, OneOrder}
 use Rattle.schedule.specs.File.{reading, fileEntries}
 use Rattle.log.specs.Log.{logLength, headIn, notesIn}
 use Rattle.bench.specs.Bench.{logAfter}
-use Rattle.word.specs.Order.{Every}
 
 -- a store is decided by step 8, its second own step
 abbrev pub stepOfStore : ℕ

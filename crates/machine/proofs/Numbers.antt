@@ -7,9 +7,7 @@ use lib.Dec.{leb, ltb}
 use borrow.Author.Tests.{le-leb, ltb-true}
 use Rattle.numbers.proofs.Range.{range-of}
 use Rattle.machine.specs.Types.{Process, Record, Place, Idle, Load1, Load2, Load3, Load5, Store7, Store8, Store9, Store10, Check14, Kind, Ask, Step, Request, Load, Store, Check, Outcome, Current, NotDone, Yes, No, NoProcess, CallOpen, UsedUp, Unsound, State}
-use Rattle.step.specs.Steps.{isNear, sameTag, at, goesOn, answered, stepAt, stepOf, reachedAt, largestNext, idle}
-use Rattle.step.specs.Requests.{requestOf, whenIdle, begun, notTaken}
-use Rattle.step.specs.Outcomes.{toldOf}
+use Rattle.step.specs.Steps.{isNear, sameTag, at, goesOn, answered, stepAt, stepOf, reachedAt, largestNext, idle, requestOf, whenIdle, begun, notTaken, toldOf}
 use Rattle.machine.specs.State.{sound, rowAt, recordAt}
 use Rattle.machine.specs.Entry.{refused, entered, called}
 use Rattle.machine.specs.Run.{stepsBy, noteOf}

@@ -9,9 +9,7 @@ use lib.Dec.{leb, ltb}
 use borrow.Author.Tests.{le-leb, ltb-true}
 use Rattle.numbers.specs.Numbers.{inRange}
 use Rattle.numbers.proofs.Range.{range-of}
-use Rattle.step.specs.Steps.{isNear, sameTag, at, stepAt, stepOf, largestNext, idle}
-use Rattle.step.specs.Requests.{requestOf, whenIdle, begun, notTaken}
-use Rattle.step.specs.Outcomes.{toldOf}
+use Rattle.step.specs.Steps.{isNear, sameTag, at, stepAt, stepOf, largestNext, idle, requestOf, whenIdle, begun, notTaken, toldOf}
 use Rattle.step.proofs.Reach.{either-way}
 use Rattle.machine.specs.Types.{Process, Sequence, Tag, Row, Record, Place, Idle, Load1, Load2, Load3, Load5, Store7, Store8, Store9, Store10, Check14, Request, Load, Store, Check, Stepped, Outcome, NoProcess, CallOpen, UsedUp, Yes, No, Entry, State, Kind, Ask, Step}
 use Rattle.machine.specs.State.{rowAt, recordAt, firstState}

@@ -1,7 +1,6 @@
 -- Runs A to L, by evaluation of the definitions.
 use mathlib.Core.Path.{refl}
-use Rattle.step.specs.Steps.{stepOf}
-use Rattle.step.specs.Requests.{requestOf}
+use Rattle.step.specs.Steps.{stepOf, requestOf}
 use Rattle.machine.specs.State.{sound, startOf}
 use Rattle.machine.specs.Entry.{entered, called}
 use Rattle.machine.specs.Run.{notes}

@@ -11,8 +11,7 @@ use lib.ListN.{length, getD, replicate, getD-replicate}
 use borrow.Author.Tests.{ltb-true, ltb-false, leb-true, le-leb}
 use Rattle.numbers.specs.Numbers.{inRange}
 use Rattle.numbers.proofs.Range.{InRange, range-of}
-use Rattle.step.specs.Steps.{storing, isOld, isNear, sameTag, stepAt, stepOf, largestNext, idle}
-use Rattle.step.specs.Requests.{requestOf, whenIdle, begun, notTaken}
+use Rattle.step.specs.Steps.{storing, isOld, isNear, sameTag, stepAt, stepOf, largestNext, idle, requestOf, whenIdle, begun, notTaken}
 use Rattle.step.proofs.Reach.{either-way}
 use Rattle.machine.specs.Types.{Process, Sequence, Tag, Row, Record, Place, Idle, Load1, Load2, Load3, Load5, Store7, Store8, Store9, Store10, Check14, Request, Load, Store, Check, CallOpen, UsedUp, Stepped, State, Kind, Ask, Step}
 use Rattle.machine.specs.State.{rowAt, recordAt, noRow, noRecord, firstRow, firstRecord, firstState}

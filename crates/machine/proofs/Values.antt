@@ -11,9 +11,7 @@ use lib.ListN.{length, getD, set, replicate}
 use borrow.Author.Tests.{ltb-true}
 use Rattle.numbers.specs.Numbers.{inRange}
 use Rattle.machine.specs.Types.{Process, Sequence, Tag, Row, Record, Place, Idle, Load1, Load2, Load3, Load5, Store7, Store8, Store9, Store10, Check14, Request, Load, Store, Check, Kind, Ask, Step, Entry, Outcome, NoProcess, Requested, Stepped, State, Answer}
-use Rattle.step.specs.Steps.{isNear, sameTag, stepAt, stepOf, largestNext, idle}
-use Rattle.step.specs.Requests.{requestOf, whenIdle}
-use Rattle.step.specs.Outcomes.{toldOf}
+use Rattle.step.specs.Steps.{isNear, sameTag, stepAt, stepOf, largestNext, idle, requestOf, whenIdle, toldOf}
 use Rattle.machine.specs.State.{rowAt, recordAt, firstRow, firstState}
 use Rattle.machine.specs.Entry.{withParts, partsAfter, refused, entered}
 use Rattle.machine.specs.Frame.{Ready}

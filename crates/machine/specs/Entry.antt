@@ -3,8 +3,7 @@ use mathlib.Core.Bool.{cond}
 use lib.Dec.{ltb}
 use lib.ListN.{set}
 use Rattle.machine.specs.Types.{Process, Sequence, Tag, Row, Record, Kind, Ask, Step, Requested, Stepped, Outcome, NoProcess, Unsound, State, Answer}
-use Rattle.step.specs.Steps.{stepOf, reached}
-use Rattle.step.specs.Requests.{requestOf}
+use Rattle.step.specs.Steps.{stepOf, reached, requestOf}
 use Rattle.machine.specs.State.{sound, rowAt, recordAt}
 
 -- Which process's row an entry of p is given: a step's is the one that it reaches. A request "reaches no register": it is given p's own

@@ -3,8 +3,7 @@ use Prim.Native.Nat.{ℕ, suc}
 use mathlib.Core.Bool.{Bool, not, cond}
 use mathlib.Core.List.{List, [], _∷_}
 use lib.Dec.{leb}
-use Rattle.step.specs.Steps.{sameTag, ownSteps}
-use Rattle.step.specs.Outcomes.{toldOf}
+use Rattle.step.specs.Steps.{sameTag, ownSteps, toldOf}
 use Rattle.machine.specs.Types.{Process, Place, Outcome, State, Kind, Ask, Step, Entry, Answer}
 use Rattle.machine.specs.State.{recordAt}
 use Rattle.machine.specs.Entry.{called}

@@ -1,7 +1,7 @@
 // An entry over small parts, for a direct call and for a loop that keeps the state itself: which record and which row the entry is given, and what
 // it leaves of X and of these two. Nothing here looks whether the state is sound.
 ghost use mathlib.Core.Path.{_≡_};
-ghost use Rattle.step.specs.Requests.{requestOf};
+ghost use Rattle.step.specs.Steps.{requestOf};
 ghost use Rattle.machine.specs.Entry.{rowGiven, withParts, partsAfter};
 ghost use Rattle.machine.specs.Parts.{seatOf, playedParts};
 ghost use Rattle.machine.specs.Run.{stepsBy};

@@ -12,9 +12,9 @@ use lib.Dec.{eqb, leb}
 use Rattle.numbers.specs.Numbers.{inRange}
 use Rattle.numbers.proofs.Below.{all-at}
 use Rattle.schedule.specs.Types.{Ask, Step, Load, Store, Check, Reading, Refused, Accepted}
-use Rattle.schedule.specs.Blocks.{number, checkOf, checkFine, placeFine, blockNumber, startN, startS, startV, laterBlocks, firstClear, firstFine, firstNumber, kind, process, value, kindFine, entryClear, entryFine, entryBy, noEntry, meant, count, entryBytes, entriesFine, restClear, laterFine, laterNumber}
+use Rattle.schedule.specs.File.{number, checkOf, checkFine, placeFine, blockNumber, startN, startS, startV, laterBlocks, firstClear, firstFine, firstNumber, kind, process, value, kindFine, entryClear, entryFine, entryBy, noEntry, meant, count, entryBytes, entriesFine, restClear, laterFine, laterNumber, lengthFine, blockAt, blocksAfter, entriesTo, fileEntries, found, inTurn, acceptedAs, reading}
+use Rattle.schedule.specs.Direct.{isAccepted}
 use Rattle.schedule.specs.Direct.{usedPart, acceptedPart, entryAt}
-use Rattle.schedule.specs.File.{lengthFine, blockAt, blocksAfter, entriesTo, fileEntries, found, inTurn, acceptedAs, reading, isAccepted}
 use Rattle.schedule.proofs.Laws.{part-length}
 use Rattle.schedule.proofs.Entries.{block-entries, block-entry, entry-stands, entry-bytes, part-bytes, used-is, used-entry}
 

@@ -13,9 +13,8 @@ use lib.ListN.{length, getD, take, drop, length-append, List·getD-append, List�
 use lib.Seq.{take-take, drop-drop, getD-append-add}
 use lib.Dec.{eqb, leb}
 use Rattle.numbers.proofs.Below.{listed-length, listed-at}
-use Rattle.schedule.specs.Blocks.{count, entryBytes, noEntry, meant, laterNumber, blockEntries}
+use Rattle.schedule.specs.File.{count, entryBytes, noEntry, meant, laterNumber, blockEntries, blockAt, entriesTo}
 use Rattle.schedule.specs.Direct.{usedPart, acceptedPart, entryAt}
-use Rattle.schedule.specs.File.{blockAt, entriesTo}
 use Rattle.schedule.proofs.Laws.{part-length}
 
 -- a part of a part is a part of the whole

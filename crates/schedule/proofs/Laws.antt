@@ -12,7 +12,7 @@ use lib.Seq.{length-take-le}
 use lib.Dec.{eqb}
 use Rattle.numbers.specs.Numbers.{numberAt}
 use Rattle.numbers.proofs.Below.{all-front}
-use Rattle.schedule.specs.Blocks.{zerosOf, weighed}
+use Rattle.schedule.specs.File.{zerosOf, weighed}
 
 -- a sum is zero where both its parts are
 pub eqb-sum : (a x : ℕ) → eqb (a + x) 0 ≡ (eqb a 0 && eqb x 0)

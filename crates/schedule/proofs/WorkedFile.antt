@@ -1,8 +1,7 @@
 -- The file of document 01's full run, by computation.
 -- Assumes nothing.
 use mathlib.Core.Path.{refl}
-use Rattle.schedule.specs.Blocks.{zerosOf, checkOf, firstNumber, meant, laterNumber, blockEntries}
-use Rattle.schedule.specs.File.{entriesTo, inTurn, reading}
+use Rattle.schedule.specs.File.{zerosOf, checkOf, firstNumber, meant, laterNumber, blockEntries, entriesTo, inTurn, reading}
 use Rattle.schedule.specs.WorkedFile.{workedFile, workedEntries, FullRun}
 
 pub full-run : FullRun

@@ -1,11 +1,11 @@
 -- What the block readers answer to a direct caller, and the parts that they hand back.
 use Prim.Native.Nat.{ℕ, _+_, _*_}
-use mathlib.Core.Bool.{cond}
+use mathlib.Core.Bool.{Bool, true, false, cond}
 use mathlib.Core.List.{List, []}
 use lib.ListN.{length, take, drop}
 use lib.Dec.{eqb, leb}
-use Rattle.schedule.specs.Types.{FirstBlock, FirstRefused, Start, Entry, Block, BlockRefused, Entries}
-use Rattle.schedule.specs.Blocks.{startN, startS, startV, firstNumber, count, laterNumber, noEntry, meant}
+use Rattle.schedule.specs.Types.{Reading, Refused, Accepted, FirstBlock, FirstRefused, Start, Entry, Block, BlockRefused, Entries}
+use Rattle.schedule.specs.File.{startN, startS, startV, firstNumber, count, laterNumber, noEntry, meant}
 
 -- what block 0 says. A list that is not 512 bytes long is no block: by 1, as a file of such a length.
 unfoldable pub firstOf : List ℕ → ℕ → FirstBlock
@@ -33,3 +33,8 @@ acceptedPart b k = cond (eqb (length b) 512) (cond (eqb (laterNumber b k) 0) (us
 -- entry j of such a part: twelve bytes from place 12j on
 unfoldable pub entryAt : List ℕ → ℕ → Entry
 entryAt p j = cond (leb (12 * j + 12) (length p)) (meant (take 12 (drop (12 * j) p))) noEntry
+
+-- whether a reading is of an accepted file
+abbrev pub isAccepted : Reading → Bool
+isAccepted (Refused n k) = false
+isAccepted (Accepted n s v c) = true

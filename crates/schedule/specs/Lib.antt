@@ -1,5 +1,4 @@
 pub mod Types
-pub mod File
 pub mod WorkedFile
-pub mod Blocks
 pub mod Direct
+pub mod File

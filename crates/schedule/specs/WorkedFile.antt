@@ -4,8 +4,7 @@ use mathlib.Core.List.{List, [], _∷_, _++_}
 use Prim.Native.Nat.{ℕ, _-_}
 use lib.ListN.{length, replicate}
 use Rattle.schedule.specs.Types.{Entry, Ask, Step, Load, Store, Check, Refused, Accepted}
-use Rattle.schedule.specs.Blocks.{checkOf, entryBy}
-use Rattle.schedule.specs.File.{blockAt, fileEntries, reading}
+use Rattle.schedule.specs.File.{checkOf, entryBy, blockAt, fileEntries, reading}
 
 -- a block: its first bytes, zeros up to byte 509, and the two bytes of its check
 abbrev block : List ℕ → ℕ → ℕ → List ℕ

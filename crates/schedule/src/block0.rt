@@ -11,7 +11,7 @@ use numbers::in_range;
 use numbers::wide;
 ghost use mathlib.Core.Path.{_≡_};
 ghost use lib.ListN.{length};
-ghost use Rattle.schedule.specs.Blocks.{firstClear, firstFine, firstNumber};
+ghost use Rattle.schedule.specs.File.{firstClear, firstFine, firstNumber};
 ghost use Rattle.schedule.specs.Direct.{firstOf};
 
 // Whether block 0 has no stray byte.

@@ -3,7 +3,7 @@ ghost use mathlib.Core.Path.{_≡_};
 ghost use Prim.Native.Nat.{_+_, _≤_, _<_};
 ghost use lib.ListN.{length};
 ghost use Rattle.numbers.specs.Numbers.{numberAt};
-ghost use Rattle.schedule.specs.Blocks.{zerosOf};
+ghost use Rattle.schedule.specs.File.{zerosOf};
 use numbers::wide;
 
 // The number of the two bytes from place `at` on. Each further width is made of two halves.

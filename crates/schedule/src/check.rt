@@ -6,7 +6,7 @@ ghost use mathlib.Core.Bool.{cond, not};
 ghost use Prim.Native.Nat.{_≤_};
 ghost use lib.ListN.{length};
 ghost use lib.Dec.{eqb};
-ghost use Rattle.schedule.specs.Blocks.{weighed, checkOf, blockNumber};
+ghost use Rattle.schedule.specs.File.{weighed, checkOf, blockNumber};
 
 // The sum over the first `end` places of (i + 1) times byte i, with nothing taken off on the way: for 510 places it stays
 // below 2^32.

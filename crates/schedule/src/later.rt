@@ -14,7 +14,7 @@ use step::Request;
 ghost use mathlib.Core.Path.{_≡_};
 ghost use Prim.Native.Nat.{_≤_, _<_};
 ghost use lib.ListN.{length};
-ghost use Rattle.schedule.specs.Blocks.{entryFine, entriesFine, laterFine, laterNumber, noEntry, meant};
+ghost use Rattle.schedule.specs.File.{entryFine, entriesFine, laterFine, laterNumber, noEntry, meant};
 ghost use Rattle.schedule.specs.Direct.{laterOf, entryAt, usedPart, acceptedPart};
 
 // Whether an entry has a kind that there is, and no stray byte. The bytes that should be zero are read as one number.

@@ -1,11 +1,11 @@
--- Document 01, "The steps". A step of process p sees X, p's own record and one row of registers, and says what it leaves of each. An old
--- number is an integer, from -1; every other number is a natural number.
+-- Document 01, "The steps": the ten steps, a request, and what the log says of each outcome. A step of process p sees X, p's own record and
+-- one row of registers, and says what it leaves of each. An old number is an integer, from -1; every other number is a natural number.
 use Prim.Native.Nat.{ℕ, _+_, _%_}
 use mathlib.Core.Bool.{true, Bool, false, _&&_, _||_, cond}
 use lib.Dec.{eqb, leb}
 use lib.IntN.{ℤ, pos, negsuc, _-ℤ_}
 use lib.Signed.{leZ}
-use Rattle.step.specs.Types.{Tag, Row, Process, Sequence, Place, Idle, Load1, Load2, Load3, Load5, Store7, Store8, Store9, Store10, Check14, Record, Outcome, GoesOn, Current, Old, Done, NotDone, Yes, No, NoCall, Unsound, Stepped}
+use Rattle.step.specs.Types.{Tag, Row, Process, Sequence, Place, Idle, Load1, Load2, Load3, Load5, Store7, Store8, Store9, Store10, Check14, Record, Outcome, GoesOn, Current, Old, Done, NotDone, Yes, No, NoCall, Unsound, Stepped, Taken, CallOpen, UsedUp, Request, Load, Store, Check, Requested, NoProcess, Told}
 use lib.ListN.{getD, set}
 
 -- whether two integers are equal
@@ -158,3 +158,43 @@ reachedAt p kept place = cond (about place .readsOther) (kept .process) p
 
 abbrev pub reached : Process → Record → Process
 reached p own = reachedAt p (own .kept) (own .place)
+
+-- a refused request: "state the same"
+abbrev pub notTaken : Record → Outcome → Requested
+notTaken own outcome = record { own = own; outcome = outcome }
+
+-- the call starts at its first step
+abbrev pub begun : Record → Place → Requested
+begun own place = record { own = at own place; outcome = Taken }
+
+-- 13: "SC request when the next number is above S"
+abbrev pub whenIdle : Sequence → Record → Request → Requested
+whenIdle last own Load = begun own Load1
+whenIdle last own (Store v) = cond (leb (own .next .0) (last .0)) (begun own (Store7 v)) (notTaken own UsedUp)
+whenIdle last own Check = begun own Check14
+
+-- 12: "request to a process that has a call open"; then 13
+unfoldable pub requestOf : Sequence → Record → Request → Requested
+requestOf last own request = cond (idle (own .place)) (whenIdle last own request) (notTaken own CallOpen)
+
+abbrev pub says : ℕ → ℕ → ℕ → Told
+says number mark value = record { number = number; mark = mark; value = value }
+
+-- Number, mark and value.
+-- "Outcomes: 0 request taken; 1 step taken, call goes on; 2 LL answered; 3 SC done; 4 SC not done; 5 VL yes; 6 VL no. A refused
+-- entry's outcome is its number below."
+-- "Mark: 1 "current" for an LL answered by step 3, 2 "old" for one answered by step 5, else 0. Value: the LL's answer, else 0."
+abbrev pub toldOf : Outcome → Told
+toldOf Taken = says 0 0 0
+toldOf GoesOn = says 1 0 0
+toldOf (Current v) = says 2 1 v
+toldOf (Old v) = says 2 2 v
+toldOf Done = says 3 0 0
+toldOf NotDone = says 4 0 0
+toldOf Yes = says 5 0 0
+toldOf No = says 6 0 0
+toldOf NoProcess = says 11 0 0
+toldOf CallOpen = says 12 0 0
+toldOf UsedUp = says 13 0 0
+toldOf NoCall = says 14 0 0
+toldOf Unsound = says 15 0 0

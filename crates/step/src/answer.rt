@@ -1,6 +1,6 @@
 // What the log says of an outcome.
 ghost use mathlib.Core.Path.{_≡_};
-ghost use Rattle.step.specs.Outcomes.{says, toldOf};
+ghost use Rattle.step.specs.Steps.{says, toldOf};
 use crate::Outcome;
 use crate::Told;
 

@@ -1,8 +1,7 @@
 // A call of one process: its request, and its next step.
 ghost use mathlib.Core.Path.{_≡_};
 ghost use Prim.Native.Nat.{_≤_};
-ghost use Rattle.step.specs.Steps.{stepAt, stepOf, reached, ownSteps, idle};
-ghost use Rattle.step.specs.Requests.{begun, whenIdle, requestOf};
+ghost use Rattle.step.specs.Steps.{stepAt, stepOf, reached, ownSteps, idle, begun, whenIdle, requestOf};
 use crate::Outcome;
 use crate::Place;
 use crate::Record;

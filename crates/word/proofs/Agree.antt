@@ -5,8 +5,7 @@ use Prim.Native.Nat.{ℕ}
 use mathlib.Core.Path.{_≡_, refl}
 use mathlib.Core.List.{List, [], _∷_, List·Mem, Perm·cons, Perm·symm, Perm·mem-iff, perm-append-singleton}
 use native.Mathlib.Omega.{arith}
-use Rattle.word.specs.Word.{Op, load, store, check, Answer, value, done, notDone, saysYes, saysNo, first}
-use Rattle.word.specs.Order.{Call, Every, Plays, InTime, InOrder}
+use Rattle.word.specs.Word.{Op, load, store, check, Answer, value, done, notDone, saysYes, saysNo, first, Call, Every, Plays, InTime, InOrder}
 use Rattle.word.specs.Calls.{Item, asks, goes, answers, away, Reply, noCalls, callsFrom}
 
 -- Exactly the calls given: each stands in the order, and nothing else does.

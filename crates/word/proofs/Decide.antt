@@ -7,8 +7,7 @@ use mathlib.Core.Bool.{true, decide}
 use mathlib.Core.Logic.{Dec·and}
 use mathlib.Core.List.{List, [], _∷_}
 use native.Mathlib.Decide.{ℕ-discrete, decLt}
-use Rattle.word.specs.Word.{Word, Answer-discrete, answerOf, first}
-use Rattle.word.specs.Order.{Call, Every, step, Plays, InTime}
+use Rattle.word.specs.Word.{Word, Answer-discrete, answerOf, first, Call, Every, step, Plays, InTime}
 use Rattle.word.proofs.Agree.{runs}
 
 unfoldable pub every? : {B : Type 0} (P : B → Type 0) → ((b : B) → Dec (P b)) → (l : List B) → Dec (Every P l)

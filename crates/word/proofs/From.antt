@@ -7,7 +7,7 @@ use mathlib.Core.List.{List, [], _∷_, _++_, filterMap, append-nil}
 use native.Mathlib.Omega.{arith}
 use lib.ListN.{take, drop}
 use lib.Seq.{take-nil}
-use Rattle.word.specs.Order.{Call, Every}
+use Rattle.word.specs.Word.{Call, Every}
 use Rattle.word.proofs.Lists.{every-mid, every-drop}
 use Rattle.word.proofs.Changes.{writes, changed, total}
 

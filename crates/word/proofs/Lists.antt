@@ -6,7 +6,7 @@ use mathlib.Core.HLevel.{×-prop, Unit-prop}
 use mathlib.Core.Logic.{∥∥₁-elim}
 use mathlib.Core.List.{List, [], _∷_, _++_, Perm, List·Permᴰ, List·Permᴰ·nil, List·Permᴰ·cons, List·Permᴰ·swap, List·Permᴰ·trans}
 use lib.ListN.{take, drop, take-append-drop}
-use Rattle.word.specs.Order.{Every}
+use Rattle.word.specs.Word.{Every}
 
 module _ {B : Type 0} where
   pub every-map : (P Q : B → Type 0) → ((b : B) → P b → Q b) → (l : List B) → Every P l → Every Q l

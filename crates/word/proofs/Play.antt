@@ -3,8 +3,7 @@
 use Prim.Native.Nat.{ℕ}
 use mathlib.Core.Path.{_≡_}
 use mathlib.Core.List.{List, [], _∷_, _++_, foldl, foldl-append}
-use Rattle.word.specs.Word.{Word, answerOf}
-use Rattle.word.specs.Order.{Call, step, Plays}
+use Rattle.word.specs.Word.{Word, answerOf, Call, step, Plays}
 
 module _ {A : Type 0} where
   -- the words at the end of play

@@ -11,7 +11,7 @@ use native.Mathlib.Omega.{arith}
 use lib.Dec.{ltb}
 use lib.ListN.{getElem?}
 use borrow.Author.Tests.{ltb-true, ltb-false}
-use Rattle.word.specs.Order.{Call, Every, InTime, StandsFirst}
+use Rattle.word.specs.Word.{Call, Every, InTime, StandsFirst}
 
 -- what holds of every element holds of the one at place i
 pub every-at : {B : Type 0} (P : B → Type 0) (l : List B) (i : ℕ) (b : B) → Every P l → getElem? l i ≡ some b → P b

@@ -6,8 +6,7 @@ use mathlib.Core.Bool.{Bool, true, false, cond}
 use mathlib.Core.Logic.{_≢_}
 use mathlib.Core.List.{List, [], _∷_}
 use borrow.Author.Tests.{ne-eqb}
-use Rattle.word.specs.Word.{Word, Link, at, Op, load, store, check, put, linked, answerOf, nextOf}
-use Rattle.word.specs.Order.{Call, Every, step, Plays}
+use Rattle.word.specs.Word.{Word, Link, at, Op, load, store, check, put, linked, answerOf, nextOf, Call, Every, step, Plays}
 use Rattle.word.proofs.Put.{put-comm, put-same, put-other, change, change-comm, split}
 use Rattle.word.proofs.Play.{after}
 

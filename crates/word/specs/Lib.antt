@@ -1,3 +1,2 @@
-pub mod Word
-pub mod Order
 pub mod Calls
+pub mod Word

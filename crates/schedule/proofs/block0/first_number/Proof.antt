@@ -1,7 +1,7 @@
 -- `schedule::block0::first_number` meets its contract: it is the number of a block whose rest is tried so.
 -- Assumes nothing.
 use borrow.Author.Needs.{needs}
-use Rattle.schedule.specs.Blocks.{firstNumber}
+use Rattle.schedule.specs.File.{firstNumber}
 use Rattle.schedule.proofs.block0.first_number.Statement.{statement}
 use Rattle.schedule.proofs.block0.first_number.Tie as tie
 

@@ -7,7 +7,7 @@ use native.Mathlib.Omega.{arith}
 use native.Mathlib.Numerals.{add-one}
 use lib.Dec.{eqb}
 use denote.Ref.{now}
-use Rattle.schedule.specs.Blocks.{zerosOf}
+use Rattle.schedule.specs.File.{zerosOf}
 use Rattle.schedule.proofs.Laws.{eqb-sum}
 use Rattle.schedule.proofs.bytes.clear.Statement.{statement}
 use Rattle.schedule.proofs.bytes.clear.Tie as tie

@@ -8,7 +8,7 @@ use native.Mathlib.Omega.{arith}
 use native.Mathlib.Nat.{le-refl}
 use lib.ListN.{length}
 use denote.Ref.{now}
-use Rattle.schedule.specs.Blocks.{weighed, checkOf}
+use Rattle.schedule.specs.File.{weighed, checkOf}
 use Rattle.schedule.proofs.Laws.{weighed-past}
 use Rattle.schedule.proofs.check.check_of.Statement.{statement}
 use Rattle.schedule.proofs.check.check_of.Tie as tie

@@ -5,7 +5,7 @@ use borrow.Author.Needs.{needs}
 use native.Mathlib.Omega.{arith}
 use mathlib.Core.Bool.{cond, not}
 use denote.Ref.{now}
-use Rattle.schedule.specs.Blocks.{checkFine, placeFine}
+use Rattle.schedule.specs.File.{checkFine, placeFine}
 use Rattle.schedule.proofs.Laws.{test-first}
 use Rattle.schedule.proofs.check.number_of.Statement.{statement}
 use Rattle.schedule.proofs.check.number_of.Tie as tie

@@ -6,7 +6,7 @@ use Prim.Native.Nat.{_≤_, _*_, _-_}
 use native.Mathlib.Omega.{arith}
 use native.Mathlib.Numerals.{add-one}
 use denote.Ref.{now}
-use Rattle.schedule.specs.Blocks.{weighed}
+use Rattle.schedule.specs.File.{weighed}
 use Rattle.schedule.proofs.Laws.{weight-bound}
 use Rattle.schedule.proofs.check.weigh.Statement.{statement}
 use Rattle.schedule.proofs.check.weigh.Tie as tie

@@ -10,8 +10,7 @@ use native.Mathlib.Omega.{arith}
 use borrow.Author.Tests.{eq-eqb, ne-eqb}
 use lib.ListN.{length}
 use denote.Ref.{now}
-use Rattle.schedule.specs.Blocks.{firstNumber}
-use Rattle.schedule.specs.File.{lengthFine, blockAt, blocksAfter, reading}
+use Rattle.schedule.specs.File.{firstNumber, lengthFine, blockAt, blocksAfter, reading}
 use Rattle.schedule.proofs.Laws.{part-length}
 use Rattle.schedule.proofs.Accepted.{length-blocks}
 use Rattle.schedule.proofs.file.read_file.Statement.{statement}

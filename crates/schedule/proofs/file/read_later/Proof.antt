@@ -8,8 +8,7 @@ use Prim.Native.Nat.{ℕ, _+_, _*_, _≤_, _-_}
 use native.Mathlib.Omega.{arith}
 use lib.ListN.{length}
 use denote.Ref.{now}
-use Rattle.schedule.specs.Blocks.{laterNumber, count}
-use Rattle.schedule.specs.File.{entriesTo, inTurn}
+use Rattle.schedule.specs.File.{laterNumber, count, entriesTo, inTurn}
 use Rattle.schedule.specs.Types.{Reading, Accepted}
 use Rattle.schedule.proofs.Laws.{part-length}
 use Rattle.schedule.proofs.Entries.{entries-more}

@@ -6,7 +6,7 @@ use native.Mathlib.Nat.{add-sub-cancel-left}
 use native.Mathlib.Omega.{arith}
 use native.Mathlib.Numerals.{add-one}
 use denote.Ref.{now}
-use Rattle.schedule.specs.Blocks.{entriesFine}
+use Rattle.schedule.specs.File.{entriesFine}
 use Rattle.schedule.proofs.Laws.{part-length}
 use Rattle.schedule.proofs.later.entries_fine.Statement.{statement}
 use Rattle.schedule.proofs.later.entries_fine.Tie as tie

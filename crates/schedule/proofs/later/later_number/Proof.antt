@@ -1,7 +1,7 @@
 -- `schedule::later::later_number` meets its contract: it is the number of a block whose rest is tried so.
 -- Assumes nothing.
 use borrow.Author.Needs.{needs}
-use Rattle.schedule.specs.Blocks.{laterNumber}
+use Rattle.schedule.specs.File.{laterNumber}
 use Rattle.schedule.proofs.later.later_number.Statement.{statement}
 use Rattle.schedule.proofs.later.later_number.Tie as tie
 

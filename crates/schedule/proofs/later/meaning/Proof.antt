@@ -3,7 +3,7 @@
 use borrow.Author.Needs.{needs}
 use native.Mathlib.Omega.{arith}
 use borrow.Author.Tests.{eq-eqb, ne-eqb}
-use Rattle.schedule.specs.Blocks.{meant}
+use Rattle.schedule.specs.File.{meant}
 use Rattle.schedule.proofs.later.meaning.Statement.{statement}
 use Rattle.schedule.proofs.later.meaning.Tie as tie
 

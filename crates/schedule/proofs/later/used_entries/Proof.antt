@@ -8,7 +8,7 @@ use Prim.Native.Nat.{_+_, _*_}
 use borrow.Author.Tests.{le-leb, lt-leb}
 use lib.ListN.{length}
 use denote.Ref.{now}
-use Rattle.schedule.specs.Blocks.{count}
+use Rattle.schedule.specs.File.{count}
 use Rattle.schedule.specs.Direct.{usedPart}
 use Rattle.schedule.proofs.later.used_entries.Statement.{statement}
 use Rattle.schedule.proofs.later.used_entries.Tie as tie

@@ -1,7 +1,7 @@
 -- An idle process's request is taken or refused by 13; any other is refused by 12.
 -- Assumes nothing.
 use borrow.Author.Needs.{needs}
-use Rattle.step.specs.Requests.{requestOf}
+use Rattle.step.specs.Steps.{requestOf}
 use Rattle.step.proofs.call.request.Statement.{statement}
 use Rattle.step.proofs.call.request.Tie as tie
 
