@@ -17,7 +17,8 @@ use Rattle.machine.specs.Run.{turnedAway, changes}
 use Rattle.machine.proofs.Tests.{and-left, and-right, and-both}
 use Rattle.machine.proofs.Refusals.{refusal-same}
 use Rattle.linear.proofs.Invariant.{slotOf}
-use Rattle.linear.proofs.Moved.{Moved, Left, rowLeft, stepFrom, by-entry, asked-left, step-left}
+use Rattle.linear.proofs.View.{viewOf, Moved}
+use Rattle.linear.proofs.Moved.{Left, rowLeft, stepFrom, by-entry, asked-left, step-left}
 
 same-tag : (x : Tag) → sameTag x x ≡ true
 same-tag x = and-both _ _ (eq-eqb (x .process .0) (x .process .0) refl) (eq-eqb (x .number .0) (x .number .0) refl)
@@ -43,7 +44,7 @@ changed-by st st′ p following e = ap (λ (x : Tag). not (sameTag (st .x) x)) e
 -- The cases of a process p below N: the requests that are taken, and the steps. A calm one leaves X.
 module _ (G : Kind → State → Outcome → Bool → Type 0) (st : State) (p : ℕ) where
   abbrev pub Calm : Kind → Outcome → Row → Record → Type 0
-  Calm k o r′ o′ = (st′ : State) → st′ .x ≡ st .x → Moved p st st′ r′ o′ → G k st′ o false
+  Calm k o r′ o′ = (st′ : State) → st′ .x ≡ st .x → Moved p (viewOf st) (viewOf st′) r′ o′ → G k st′ o false
 
   pub record Cases : Type 0 where
     pub asks-load : recordAt st p .place ≡ Idle → Calm (Ask Load) Taken (rowAt st p) (at (recordAt st p) Load1)
@@ -64,7 +65,7 @@ module _ (G : Kind → State → Outcome → Bool → Type 0) (st : State) (p : 
         → Calm Step GoesOn (withSlot (rowAt st p) (recordAt st p .next) v) (at (recordAt st p) Store8)
     pub step-8-done : recordAt st p .place ≡ Store8 → sameTag (st .x) (recordAt st p .kept) ≡ true → (st′ : State)
         → st′ .x ≡ record { process = record { 0 = p }; number = recordAt st p .next }
-        → Moved p st st′ (rowAt st p) (record { kept = recordAt st p .kept; next = record { 0 = recordAt st p .next .0 + 1 }; place = Store9 })
+        → Moved p (viewOf st) (viewOf st′) (rowAt st p) (record { kept = recordAt st p .kept; next = record { 0 = recordAt st p .next .0 + 1 }; place = Store9 })
         → G Step st′ GoesOn true
     pub step-8-not-done : recordAt st p .place ≡ Store8 → sameTag (st .x) (recordAt st p .kept) ≡ false
         → Calm Step NotDone (rowAt st p) (at (recordAt st p) Idle)
@@ -117,7 +118,7 @@ module _ (G : Kind → State → Outcome → Bool → Type 0) (st : State) (p : 
 
     -- a request k that leaves r of p's record
     abbrev To : Request → Requested → Type 0
-    To k r = called st p (Ask k) .outcome ≡ r .outcome → Moved (p .0) st (called st p (Ask k) .state) (rowAt st (p .0)) (r .own) → Shown (Ask k) (called st p (Ask k))
+    To k r = called st p (Ask k) .outcome ≡ r .outcome → Moved (p .0) (viewOf st) (viewOf (called st p (Ask k) .state)) (rowAt st (p .0)) (r .own) → Shown (Ask k) (called st p (Ask k))
 
     request-shown : (request : Request) → Shown (Ask request) (called st p (Ask request))
     unfolding requestOf

@@ -9,9 +9,9 @@ use native.Mathlib.Decide.{ℕ-discrete, decLt}
 use lib.Dec.{eqb}
 use borrow.Author.Tests.{eqb-true, eq-eqb, ne-eqb}
 use Rattle.step.specs.Steps.{sameTag}
-use Rattle.linear.specs.Types.{Tag, Row, Place, Idle, Load1, Load2, Load3, Load5, Store7, Store8, Store9, Store10, Check14, State}
+use Rattle.linear.specs.Types.{Tag, Row, Place, Idle, Load1, Load2, Load3, Load5, Store7, Store8, Store9, Store10, Check14}
 use Rattle.machine.proofs.Tests.{and-left, and-right, and-both}
-use Rattle.machine.specs.State.{rowAt, recordAt}
+use Rattle.linear.proofs.View.{View, rowAt, recordAt}
 use Rattle.word.specs.Word.{Link, none, at, linked}
 use Rattle.linear.proofs.History.{Change, At, Sorted, Held, Same, at-below, at-order, at-value, at-same}
 use Rattle.linear.proofs.Invariant.{gap, ext, slotOf, oldUp, olds, KeptTag, Stage, One, OneAt, Inv}
@@ -50,7 +50,7 @@ module _ {up : ℕ → ℕ} {h : List Change} {q : ℕ} {r : Row} {tag : Tag} {n
           (omega (arith, ne, one .below i k u a, one .number, gap-bounds place)))
 
 -- Of the whole state.
-module _ {st : State} {t : ℕ} {h : List Change} {seen : ℕ → Link} (inv : Inv st t h seen) where
+module _ {st : View} {t : ℕ} {h : List Change} {seen : ℕ → Link} (inv : Inv st t h seen) where
   -- a place of h is not above the newest
   pub place-low : (i q k u : ℕ) → At h i q k u → i ≤ t
   place-low i q k u a = omega (arith, at-below h i q k u a, inv .size)

@@ -5,8 +5,8 @@ use Prim.Native.Nat.{ℕ, suc, _+_, _%_, _≤_, _<_}
 use mathlib.Core.Path.{_≡_}
 use mathlib.Core.List.{List}
 use lib.ListN.{length, getD}
-use Rattle.linear.specs.Types.{Tag, Row, Record, Place, Idle, Load1, Load2, Load3, Load5, Store7, Store8, Store9, Store10, Check14, State}
-use Rattle.machine.specs.State.{rowAt, recordAt}
+use Rattle.linear.specs.Types.{Tag, Row, Record, Place, Idle, Load1, Load2, Load3, Load5, Store7, Store8, Store9, Store10, Check14}
+use Rattle.linear.proofs.View.{View, rowAt, recordAt}
 use Rattle.word.specs.Word.{Link, none, at}
 use Rattle.linear.proofs.Lift.{lift}
 use Rattle.linear.proofs.History.{Change, At, Sorted, Held}
@@ -45,7 +45,7 @@ slotOf r k = getD (r .slots) (k % 2) 0
 abbrev pub oldUp : Row → ℕ
 oldUp r = lift (r .«old_number»)
 
-abbrev pub olds : State → ℕ → ℕ
+abbrev pub olds : View → ℕ → ℕ
 olds st q = oldUp (rowAt st q)
 
 -- [23, 26] The kept tag is the change that was seen, and before the first step 1 it is no change at all.
@@ -85,11 +85,11 @@ pub record One (up : ℕ → ℕ) (h : List Change) (p : ℕ) (r : Row) (tag : T
   pub stage : Stage up h tag sn place
 
 -- The same of process q of a state.
-abbrev pub OneAt : State → List Change → ℕ → Row → Record → Link → Type 0
+abbrev pub OneAt : View → List Change → ℕ → Row → Record → Link → Type 0
 OneAt st h q r own sn = One (olds st) h q r (own .kept) (own .next .0) (own .place) sn
 
 -- Of the whole state; t is the number of changes since the start, and so the place of the newest.
-pub record Inv (st : State) (t : ℕ) (h : List Change) (seen : ℕ → Link) : Type 0 where
+pub record Inv (st : View) (t : ℕ) (h : List Change) (seen : ℕ → Link) : Type 0 where
   pub size : length h ≡ suc t
   -- [14] X is the newest change
   pub newest : (v : ℕ) × At h t (st .x .process .0) (st .x .number .0) v

@@ -9,8 +9,8 @@ use mathlib.Core.Logic.{_≢_, inl, inr}
 use mathlib.Core.List.{List, [], _∷_, _++_}
 use native.Mathlib.Omega.{arith}
 use Rattle.step.specs.Steps.{sameTag, at}
-use Rattle.linear.specs.Types.{Row, Record, Place, Idle, Store9, State}
-use Rattle.machine.specs.State.{rowAt, recordAt}
+use Rattle.linear.specs.Types.{Row, Record, Place, Idle, Store9}
+use Rattle.linear.proofs.View.{View, rowAt, recordAt, Moved}
 use Rattle.word.specs.Word.{Link, Op, load, store, Answer, value, done, notDone, put, linked, answerOf, first, Call}
 use Rattle.word.specs.Word as word
 use Rattle.word.proofs.Put.{split, put-same, put-other, put-id}
@@ -22,12 +22,11 @@ use Rattle.word.proofs.Good.{Good, MayLoad, good-tick, good-append, good-load, 
 use Rattle.linear.proofs.History.{Change, At}
 use Rattle.linear.proofs.Invariant.{slotOf, Inv}
 use Rattle.linear.proofs.Consequences.{place-low, tag-test}
-use Rattle.linear.proofs.Moved.{Moved}
 use Rattle.linear.proofs.Kept.{own, row, newChange}
 use Rattle.linear.proofs.Side.{LinkOk, Undecided, LateFor, endLink, Side, SideAt, Sim, Way, way-same, way-quiet, way-done, way-load, link-snoc, side-on, link-behind, linked-same}
 
 -- An entry that changes no state: a refused one.
-pub sim-tick : {v : ℕ} {st : State} {now : ℕ} {asked : ℕ → ℕ} {op : ℕ → Op ℕ} {played : List (Call ℕ)} {seen : ℕ → Link} {changes : ℕ}
+pub sim-tick : {v : ℕ} {st : View} {now : ℕ} {asked : ℕ → ℕ} {op : ℕ → Op ℕ} {played : List (Call ℕ)} {seen : ℕ → Link} {changes : ℕ}
     → Sim v st now asked op played seen changes → Sim v st (suc now) asked op played seen changes
 sim-tick {v} {st} {now} {asked} {op} {played} {seen} s =
     record {
@@ -40,10 +39,10 @@ sim-tick {v} {st} {now} {asked} {op} {played} {seen} s =
       sides = λ q l. side-on (way-same v now (s .order) q) (asked q) (op q) (rowAt st q) (recordAt st q .next .0) (recordAt st q .place) (seen q) (s .sides q l);
     }
 
-module _ {v : ℕ} {st : State} {now : ℕ} {asked : ℕ → ℕ} {op : ℕ → Op ℕ} {played : List (Call ℕ)} {seen : ℕ → Link} {changes : ℕ}
+module _ {v : ℕ} {st : View} {now : ℕ} {asked : ℕ → ℕ} {op : ℕ → Op ℕ} {played : List (Call ℕ)} {seen : ℕ → Link} {changes : ℕ}
     (s : Sim v st now asked op played seen changes) (p : ℕ) (l : p < st .n) where
   -- An entry of p: what is new of p, and a way for the others.
-  sim-on : {st′ : State} {r′ : Row} {o′ : Record} (asked′ : ℕ → ℕ) (op′ : ℕ → Op ℕ) (played′ order′ : List (Call ℕ)) (h′ : List Change) (sn′ : Link) (changes′ : ℕ)
+  sim-on : {st′ : View} {r′ : Row} {o′ : Record} (asked′ : ℕ → ℕ) (op′ : ℕ → Op ℕ) (played′ order′ : List (Call ℕ)) (h′ : List Change) (sn′ : Link) (changes′ : ℕ)
       → ((q : ℕ) → q ≢ p → asked′ q ≡ asked q) → ((q : ℕ) → q ≢ p → op′ q ≡ op q)
       → Moved p st st′ r′ o′ → Good v (suc now) order′ played′ → total 0 order′ ≡ changes′ → Inv st′ (total 0 order′) h′ (put p sn′ seen)
       → ((i q k u : ℕ) → At h′ i q k u → valueAfter 0 i v order′ ≡ u)
@@ -75,7 +74,7 @@ module _ {v : ℕ} {st : State} {now : ℕ} {asked : ℕ → ℕ} {op : ℕ → 
   side-at e = subst (λ (place : Place). Side v now (s .order) p (asked p) (op p) (rowAt st p) (recordAt st p .next .0) place (seen p)) e (s .sides p l)
 
   -- A step that decides nothing: 1, 2, 3 that goes on, 7, 9, 10.
-  pub sim-quiet : {st′ : State} {r′ : Row} {o′ : Record} (sn′ : Link)
+  pub sim-quiet : {st′ : View} {r′ : Row} {o′ : Record} (sn′ : Link)
       → Moved p st st′ r′ o′ → Inv st′ (total 0 (s .order)) (s .h) (put p sn′ seen)
       → SideAt v (suc now) (s .order) p (asked p) (op p) r′ o′ sn′ → Sim v st′ (suc now) asked op played (put p sn′ seen) changes
   sim-quiet sn′ m inv mine =
@@ -83,16 +82,16 @@ module _ {v : ℕ} {st : State} {now : ℕ} {asked : ℕ → ℕ} {op : ℕ → 
       (λ q ne. way-same v now (s .order) q) mine
 
   -- what p has seen is as it was
-  as-seen : {st′ : State} {now′ : ℕ} {asked′ : ℕ → ℕ} {op′ : ℕ → Op ℕ} {played′ : List (Call ℕ)} {changes′ : ℕ}
+  as-seen : {st′ : View} {now′ : ℕ} {asked′ : ℕ → ℕ} {op′ : ℕ → Op ℕ} {played′ : List (Call ℕ)} {changes′ : ℕ}
       → Sim v st′ now′ asked′ op′ played′ (put p (seen p) seen) changes′ → Sim v st′ now′ asked′ op′ played′ seen changes′
   as-seen {st′} {now′} {asked′} {op′} {played′} {changes′} s′ = subst (λ (sn : ℕ → Link). Sim v st′ now′ asked′ op′ played′ sn changes′) (put-id p seen) s′
 
-  pub sim-still : {st′ : State} {r′ : Row} {o′ : Record} → Moved p st st′ r′ o′ → Inv st′ (total 0 (s .order)) (s .h) (put p (seen p) seen)
+  pub sim-still : {st′ : View} {r′ : Row} {o′ : Record} → Moved p st st′ r′ o′ → Inv st′ (total 0 (s .order)) (s .h) (put p (seen p) seen)
       → SideAt v (suc now) (s .order) p (asked p) (op p) r′ o′ (seen p) → Sim v st′ (suc now) asked op played seen changes
   sim-still m inv mine = as-seen (sim-quiet (seen p) m inv mine)
 
   -- A request: all calls so far were decided before it.
-  pub sim-request : {st′ : State} {r′ : Row} {o′ : Record} (o : Op ℕ)
+  pub sim-request : {st′ : View} {r′ : Row} {o′ : Record} (o : Op ℕ)
       → Moved p st st′ r′ o′ → Inv st′ (total 0 (s .order)) (s .h) (put p (seen p) seen)
       → (Undecided p now (suc now) (s .order) (put p o op p) o → SideAt v (suc now) (s .order) p now (put p o op p) r′ o′ (seen p))
       → Sim v st′ (suc now) (put p now asked) (put p o op) played seen changes
@@ -104,7 +103,7 @@ module _ {v : ℕ} {st : State} {now : ℕ} {asked : ℕ → ℕ} {op : ℕ → 
       (mine (record { kind = put-same p o op; before = omega arith; own = own-new p (s .good) }))))
 
   -- A load answered now with the value of change m, not older than the change i that its step 1 has seen.
-  pub sim-load : {st′ : State} {o′ : Record} (i m q k u : ℕ) → o′ .place ≡ Idle
+  pub sim-load : {st′ : View} {o′ : Record} (i m q k u : ℕ) → o′ .place ≡ Idle
       → Moved p st st′ (rowAt st p) o′ → Inv st′ (total 0 (s .order)) (s .h) (put p (seen p) seen)
       → Undecided p (asked p) now (s .order) (op p) load → LateFor (asked p) (s .order) (seen p) → seen p ≡ word.at i
       → i ≤ m → At (s .h) m q k u → LinkOk (total 0 (s .order)) (word.at m) (word.at i)
@@ -149,7 +148,7 @@ module _ {v : ℕ} {st : State} {now : ℕ} {asked : ℕ → ℕ} {op : ℕ → 
       ∙ sym (tag-test (s .inv) p l)
 
   -- A store that is not done, or a check: decided now, at the end; it changes nothing.
-  pub sim-append : {st′ : State} {o′ : Record} (o : Op ℕ) (a : Answer ℕ) → o′ .place ≡ Idle
+  pub sim-append : {st′ : View} {o′ : Record} (o : Op ℕ) (a : Answer ℕ) → o′ .place ≡ Idle
       → Moved p st st′ (rowAt st p) o′ → Inv st′ (total 0 (s .order)) (s .h) (put p (seen p) seen)
       → Undecided p (asked p) now (s .order) (op p) o → NoLoad o → wrote o a ≡ none
       → LinkOk (total 0 (s .order)) (endLink v (s .order) p) (seen p)
@@ -180,7 +179,7 @@ module _ {v : ℕ} {st : State} {now : ℕ} {asked : ℕ → ℕ} {op : ℕ → 
       nothing = writes-nothing 0 c quiet
 
   -- A store whose step 8 succeeds: decided now, at the end; one more change, and everybody is behind it.
-  pub sim-done : {st′ : State} {o′ : Record} → o′ .place ≡ Store9
+  pub sim-done : {st′ : View} {o′ : Record} → o′ .place ≡ Store9
       → Moved p st st′ (rowAt st p) o′ → Inv st′ (suc (total 0 (s .order))) (newChange st p ∷ s .h) (put p (seen p) seen)
       → Undecided p (asked p) now (s .order) (op p) (store (slotOf (rowAt st p) (recordAt st p .next .0)))
       → LinkOk (total 0 (s .order)) (endLink v (s .order) p) (seen p)

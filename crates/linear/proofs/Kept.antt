@@ -12,8 +12,8 @@ use lib.IntN.{pos, _-ℤ_}
 use lib.ListN.{getD}
 use lib.Seq.{getD-set-other}
 use Rattle.step.specs.Steps.{isNear, isOld, withOld, at, withSlot, withOldValue}
-use Rattle.linear.specs.Types.{Tag, Row, Record, Place, Idle, Load1, Load2, Load3, Load5, Store7, Store8, Store9, Store10, Check14, State}
-use Rattle.machine.specs.State.{rowAt, recordAt}
+use Rattle.linear.specs.Types.{Tag, Row, Record, Place, Idle, Load1, Load2, Load3, Load5, Store7, Store8, Store9, Store10, Check14}
+use Rattle.linear.proofs.View.{View, rowAt, recordAt, Moved}
 use Rattle.word.specs.Word.{Link, none, put}
 use Rattle.word.specs.Word as word
 use Rattle.word.proofs.Put.{split, put-same, put-other}
@@ -21,7 +21,6 @@ use Rattle.linear.proofs.Lift.{lift, guard-high, lift-two-less}
 use Rattle.linear.proofs.History.{Change, At, Held}
 use Rattle.linear.proofs.Invariant.{gap, ext, slotOf, oldUp, olds, KeptTag, Stage, One, OneAt, Inv}
 use Rattle.linear.proofs.Consequences.{number-low, current}
-use Rattle.linear.proofs.Moved.{Moved}
 
 kept-on : (h h′ : List Change) → ((i z k v : ℕ) → At h i z k v → At h′ i z k v) → (tag : Tag) (sn : Link) → KeptTag h tag sn → KeptTag h′ tag sn
 kept-on h h′ grow tag none e = e
@@ -74,7 +73,7 @@ one-calm up up′ h p r tag tag′ next place place′ sn sn′ same-gap same-ex
     }
 
 -- A state after an entry of p.
-module _ {p : ℕ} {st st′ : State} {r′ : Row} {o′ : Record} (m : Moved p st st′ r′ o′) (rise : oldUp (rowAt st p) ≤ oldUp r′) where
+module _ {p : ℕ} {st st′ : View} {r′ : Row} {o′ : Record} (m : Moved p st st′ r′ o′) (rise : oldUp (rowAt st p) ≤ oldUp r′) where
   pub olds-rise : (z : ℕ) → olds st z ≤ olds st′ z
   olds-rise =
       split (λ z. olds st z ≤ olds st′ z) p
@@ -116,7 +115,7 @@ module _ {p : ℕ} {st st′ : State} {r′ : Row} {o′ : Record} (m : Moved p 
           (λ q ne. ap (λ (o : Record). o .next .0) (m .frame .records q ne))
 
 -- The steps of p, a process below N, whose place is known.
-module _ (st : State) (p : ℕ) where
+module _ (st : View) (p : ℕ) where
   abbrev pub own : Record
   own = recordAt st p
 
@@ -135,7 +134,7 @@ module _ (st : State) (p : ℕ) where
     pub seen-at : (i : ℕ) → seen p ≡ word.at i → (u : ℕ) × At h i (own .kept .process .0) (own .kept .number .0) u
     seen-at i e = subst (KeptTag h (own .kept)) e (inv .each p l .kept)
 
-    pub kept-calm : {st′ : State} → (place place′ : Place) → own .place ≡ place → gap place ≡ gap place′ → ext place ≡ ext place′
+    pub kept-calm : {st′ : View} → (place place′ : Place) → own .place ≡ place → gap place ≡ gap place′ → ext place ≡ ext place′
         → Moved p st st′ row (at own place′) → st′ .x ≡ st .x → Stage (olds st′) h (own .kept) (seen p) place′
         → Inv st′ t h (put p (seen p) seen)
     kept-calm {st′} place place′ e same-gap same-ext m x stage =
@@ -144,14 +143,14 @@ module _ (st : State) (p : ℕ) where
         (inv .each p l .kept) stage (one-at e))
 
     -- Step 1: the kept tag is the newest change.
-    pub kept-1 : {st′ : State} → own .place ≡ Load1 → Moved p st st′ row (record { kept = st .x; next = own .next; place = Load2 }) → st′ .x ≡ st .x
+    pub kept-1 : {st′ : View} → own .place ≡ Load1 → Moved p st st′ row (record { kept = st .x; next = own .next; place = Load2 }) → st′ .x ≡ st .x
         → Inv st′ t h (put p (word.at t) seen)
     kept-1 {st′} e m x =
         inv-same m (omega arith) (word.at t) inv x refl
         (one-calm (olds st) (olds st′) h p row (own .kept) (st .x) (own .next .0) Load1 Load2 (seen p) (word.at t) refl refl (inv .newest) (t, refl) (one-at e))
 
     -- Step 2: as long as q's old number is below k the slot holds the value of [q, k].
-    pub kept-2 : {st′ : State} → own .kept .process .0 < st .n → own .place ≡ Load2
+    pub kept-2 : {st′ : View} → own .kept .process .0 < st .n → own .place ≡ Load2
         → Moved p st st′ row (at own (Load3 (slotOf (rowAt st (own .kept .process .0)) (own .kept .number .0)))) → st′ .x ≡ st .x
         → Inv st′ t h (put p (seen p) seen)
     kept-2 lq e m x =
@@ -165,7 +164,7 @@ module _ (st : State) (p : ℕ) where
         )
 
     -- Step 3 that goes on: the old number is not below k - 2, and is neither that nor k - 1.
-    pub kept-3 : {st′ : State} → (v s : ℕ) (lq : own .kept .process .0 < st .n) → isOld (rowAt st (own .kept .process .0) .«old_number») s ≡ true
+    pub kept-3 : {st′ : View} → (v s : ℕ) (lq : own .kept .process .0 < st .n) → isOld (rowAt st (own .kept .process .0) .«old_number») s ≡ true
         → own .place ≡ Load3 v → isNear (rowAt st (own .kept .process .0) .«old_number») (own .kept .number .0) ≡ false
         → Moved p st st′ row (at own Load5) → st′ .x ≡ st .x → Inv st′ t h (put p (seen p) seen)
     kept-3 v s lq old e far m x =
@@ -176,7 +175,7 @@ module _ (st : State) (p : ℕ) where
         kept-calm (Load3 v) Load5 e refl refl m x (i, sn, omega (arith, high, olds-rise m (omega arith) (own .kept .process .0)))
 
     -- Step 7 writes into the slot of the next number; the number before it uses the other slot.
-    pub kept-7 : {st′ : State} → (v : ℕ) → own .place ≡ Store7 v → Moved p st st′ (withSlot row (own .next) v) (at own Store8) → st′ .x ≡ st .x
+    pub kept-7 : {st′ : View} → (v : ℕ) → own .place ≡ Store7 v → Moved p st st′ (withSlot row (own .next) v) (at own Store8) → st′ .x ≡ st .x
         → Inv st′ t h (put p (seen p) seen)
     kept-7 v e m x =
         let one = one-at e in
@@ -192,7 +191,7 @@ module _ (st : State) (p : ℕ) where
         })
 
     -- Step 9: the old value becomes that of the change before the newest of p, whose number uses the same slot as the next number.
-    pub kept-9 : {st′ : State} → own .place ≡ Store9 → Moved p st st′ (withOldValue row (slotOf row (own .next .0))) (at own Store10) → st′ .x ≡ st .x
+    pub kept-9 : {st′ : View} → own .place ≡ Store9 → Moved p st st′ (withOldValue row (slotOf row (own .next .0))) (at own Store10) → st′ .x ≡ st .x
         → Inv st′ t h (put p (seen p) seen)
     kept-9 e m x =
         let one = one-at e in
@@ -211,7 +210,7 @@ module _ (st : State) (p : ℕ) where
         })
 
     -- Step 10: the old number rises by one, to the number of the old value.
-    pub kept-10 : {st′ : State} → own .place ≡ Store10 → Moved p st st′ (withOld row (pos (own .next .0) -ℤ pos 2)) (at own Idle) → st′ .x ≡ st .x
+    pub kept-10 : {st′ : View} → own .place ≡ Store10 → Moved p st st′ (withOld row (pos (own .next .0) -ℤ pos 2)) (at own Idle) → st′ .x ≡ st .x
         → Inv st′ t h (put p (seen p) seen)
     kept-10 e m x =
         let one = one-at e in
@@ -228,7 +227,7 @@ module _ (st : State) (p : ℕ) where
         })
 
     -- Step 8 that succeeds: one more change.
-    pub kept-8 : {st′ : State} → own .place ≡ Store8 → st′ .x ≡ record { process = record { 0 = p }; number = own .next }
+    pub kept-8 : {st′ : View} → own .place ≡ Store8 → st′ .x ≡ record { process = record { 0 = p }; number = own .next }
         → Moved p st st′ row (record { kept = own .kept; next = record { 0 = own .next .0 + 1 }; place = Store9 })
         → Inv st′ (suc t) (newChange ∷ h) (put p (seen p) seen)
     kept-8 {st′} e x m =

@@ -12,7 +12,7 @@ use Rattle.numbers.specs.Numbers.{inRange}
 use Rattle.numbers.proofs.Range.{range-of}
 use Rattle.linear.specs.Types.{Process, Sequence, Row, Record, Kind, Step, Place, Idle, Load1, Load2, Load3, Load5, Store7, Store8, Store9, Store10, Check14, Outcome, GoesOn, State}
 use Rattle.step.specs.Steps.{ownSteps}
-use Rattle.machine.specs.State.{recordAt, firstState}
+use Rattle.machine.specs.State.{firstState}
 use Rattle.machine.specs.Entry.{called}
 use Rattle.machine.specs.Frame.{Ready}
 use Rattle.machine.specs.Run.{turnedAway, changes}
@@ -24,7 +24,7 @@ use Rattle.word.proofs.Good.{Own, own-snoc}
 use Rattle.word.proofs.Told.{Since, Told, told-start, told-tick, told-call, told-reply, told-both}
 use Rattle.linear.specs.Demand3.{stepOfStore, counted, MayGoOn, InTurn, RightRecord}
 use Rattle.linear.proofs.Start.{idle-start}
-use Rattle.linear.proofs.Moved.{Moved}
+use Rattle.linear.proofs.View.{View, recordAt, viewOf, Moved}
 use Rattle.linear.proofs.Cases.{Cases, by-cases}
 use Rattle.linear.proofs.Noted.{entryOf, noteWith, came, item-away, away-steps, away-plain}
 
@@ -54,12 +54,12 @@ KnownAt q t w n op now played replies Store9 = Open q t n 3 now replies (isStore
 KnownAt q t w n op now played replies Store10 = Open q t n 4 now replies (isStore op ≡ true) × PastEight q t w op now played
 KnownAt q t w n op now played replies Check14 = Open q t n 1 now replies (op ≡ check) × Own q t played
 
-pub record Known (st : State) (now : ℕ) (asked word : ℕ → ℕ) (op : ℕ → Op ℕ) (steps : ℕ → ℕ) (played : List (Call ℕ)) (replies : List (Reply ℕ)) : Type 0 where
+pub record Known (st : View) (now : ℕ) (asked word : ℕ → ℕ) (op : ℕ → Op ℕ) (steps : ℕ → ℕ) (played : List (Call ℕ)) (replies : List (Reply ℕ)) : Type 0 where
   pub told : Told now played replies
   pub each : (q : ℕ) → q < st .n → KnownAt q (asked q) (word q) (steps q) (op q) now played replies (recordAt st q .place)
 
 abbrev pub KnownIn : State → Calls ℕ → Type 0
-KnownIn st c = Known st (c .now) (c .asked) (c .word) (c .op) (c .steps) (c .played) (c .replies)
+KnownIn st c = Known (viewOf st) (c .now) (c .asked) (c .word) (c .op) (c .steps) (c .played) (c .replies)
 
 pub known-start : (n : ℕ) (s : Sequence) (v : ℕ) → inRange n s ≡ true → KnownIn (firstState n s v) noCalls
 known-start n s v e =
@@ -98,7 +98,7 @@ next-step : {q t n rank now : ℕ} {replies : List (Reply ℕ)} {Asks : Type 0} 
 next-step {q} {t} {n} steps o =
     record { counted = ap suc (put-same q (suc n) steps ∙ o .counted); before = omega (arith, o .before); since = o .since; asks = o .asks }
 
-module _ {st : State} {now : ℕ} {asked word : ℕ → ℕ} {op : ℕ → Op ℕ} {steps : ℕ → ℕ} {played : List (Call ℕ)} {replies : List (Reply ℕ)}
+module _ {st : View} {now : ℕ} {asked word : ℕ → ℕ} {op : ℕ → Op ℕ} {steps : ℕ → ℕ} {played : List (Call ℕ)} {replies : List (Reply ℕ)}
     (known : Known st now asked word op steps played replies) where
   pub known-tick : Known st (suc now) asked word op steps played replies
   known-tick =
@@ -111,7 +111,7 @@ module _ {st : State} {now : ℕ} {asked word : ℕ → ℕ} {op : ℕ → Op �
     pub known-at : {place : Place} → recordAt st p .place ≡ place → KnownAt p (asked p) (word p) (steps p) (op p) now played replies place
     known-at e = subst (KnownAt p (asked p) (word p) (steps p) (op p) now played replies) e (known .each p l)
 
-    known-on : {st′ : State} {r′ : Row} {o′ : Record} (asked′ word′ : ℕ → ℕ) (op′ : ℕ → Op ℕ) (steps′ : ℕ → ℕ) (played′ : List (Call ℕ)) (replies′ : List (Reply ℕ))
+    known-on : {st′ : View} {r′ : Row} {o′ : Record} (asked′ word′ : ℕ → ℕ) (op′ : ℕ → Op ℕ) (steps′ : ℕ → ℕ) (played′ : List (Call ℕ)) (replies′ : List (Reply ℕ))
         → ((q : ℕ) → q ≢ p → asked′ q ≡ asked q) → ((q : ℕ) → q ≢ p → word′ q ≡ word q) → ((q : ℕ) → q ≢ p → op′ q ≡ op q) → ((q : ℕ) → q ≢ p → steps′ q ≡ steps q)
         → ((c : Call ℕ) → List·Memᴰ c played → List·Memᴰ c played′) → ((q t : ℕ) → q ≢ p → Since q t replies → Since q t replies′)
         → ((q t : ℕ) → q ≢ p → Own q t played → Own q t played′) → Moved p st st′ r′ o′ → Told (suc now) played′ replies′
@@ -131,7 +131,7 @@ module _ {st : State} {now : ℕ} {asked word : ℕ → ℕ} {op : ℕ → Op �
         }
 
     -- a request on word w
-    known-request : {st′ : State} {r′ : Row} {o′ : Record} (w : ℕ) (o : Op ℕ) → Moved p st st′ r′ o′
+    known-request : {st′ : View} {r′ : Row} {o′ : Record} (w : ℕ) (o : Op ℕ) → Moved p st st′ r′ o′
         → KnownAt p now (put p w word p) 0 (put p o op p) (suc now) played replies (o′ .place)
         → Known st′ (suc now) (put p now asked) (put p w word) (put p o op) (put p 0 steps) played replies
     known-request {o′ = o′} w o m mine =
@@ -152,7 +152,7 @@ module _ {st : State} {now : ℕ} {asked word : ℕ → ℕ} {op : ℕ → Op �
     )
 
     -- a step that neither decides nor answers
-    known-quiet : {st′ : State} {r′ : Row} {o′ : Record} → Moved p st st′ r′ o′
+    known-quiet : {st′ : View} {r′ : Row} {o′ : Record} → Moved p st st′ r′ o′
         → KnownAt p (asked p) (word p) (put p (suc (steps p)) steps p) (op p) (suc now) played replies (o′ .place)
         → Known st′ (suc now) asked word op (put p (suc (steps p)) steps) played replies
     known-quiet m mine =
@@ -160,7 +160,7 @@ module _ {st : State} {now : ℕ} {asked word : ℕ → ℕ} {op : ℕ → Op �
         (λ c k. k) (λ q t ne h. h) (λ q t ne h. h) m (told-tick (known .told)) mine
 
     -- step 8 that succeeds
-    known-done : {st′ : State} {r′ : Row} {o′ : Record} → o′ .place ≡ Store9 → Moved p st st′ r′ o′ → Open p (asked p) (steps p) 2 now replies (isStore (op p) ≡ true) × Own p (asked p) played
+    known-done : {st′ : View} {r′ : Row} {o′ : Record} → o′ .place ≡ Store9 → Moved p st st′ r′ o′ → Open p (asked p) (steps p) 2 now replies (isStore (op p) ≡ true) × Own p (asked p) played
         → Known st′ (suc now) asked word op (put p (suc (steps p)) steps) (played ++ doneCall p (asked p) (word p) (op p) now ∷ []) replies
     known-done e m o =
         let c = doneCall p (asked p) (word p) (op p) now in
@@ -179,7 +179,7 @@ module _ {st : State} {now : ℕ} {asked word : ℕ → ℕ} {op : ℕ → Op �
     not-mine a q t ne h = every-snoc (λ r. r .process ≡ q → r .place < t) replies (reply a) h (λ e. absurd (ne (sym e)))
 
     -- a step that decides and answers
-    known-both : {st′ : State} {r′ : Row} {o′ : Record} {rank : ℕ} {Asks : Type 0} (a : Answer ℕ) → o′ .place ≡ Idle → Moved p st st′ r′ o′
+    known-both : {st′ : View} {r′ : Row} {o′ : Record} {rank : ℕ} {Asks : Type 0} (a : Answer ℕ) → o′ .place ≡ Idle → Moved p st st′ r′ o′
         → Open p (asked p) (steps p) rank now replies Asks × Own p (asked p) played
         → Known st′ (suc now) asked word op (put p (suc (steps p)) steps) (played ++ callOf (reply a) now ∷ []) (replies ++ reply a ∷ [])
     known-both a e m o =
@@ -190,7 +190,7 @@ module _ {st : State} {now : ℕ} {asked word : ℕ → ℕ} {op : ℕ → Op �
         (subst (KnownAt p (asked p) (word p) _ (op p) (suc now) _ _) (sym e) tt)
 
     -- step 10: answered "done"; the call was decided at step 8
-    known-answered : {st′ : State} {r′ : Row} {o′ : Record} → o′ .place ≡ Idle → Moved p st st′ r′ o′
+    known-answered : {st′ : View} {r′ : Row} {o′ : Record} → o′ .place ≡ Idle → Moved p st st′ r′ o′
         → Open p (asked p) (steps p) 4 now replies (isStore (op p) ≡ true) → PastEight p (asked p) (word p) (op p) now played
         → Known st′ (suc now) asked word op (put p (suc (steps p)) steps) played (replies ++ reply done ∷ [])
     known-answered e m o (d, lt, is) =
@@ -208,7 +208,7 @@ pub load-stores : {o : Op ℕ} → o ≡ load → isStore o ≡ false
 load-stores e = ap isStore e
 
 -- Every entry: what is known goes on, its record is right, and X has changed exactly if it decides a store.
-module _ {st : State} (c : Calls ℕ) (known : KnownIn st c) (ready : Ready st) (following : recordAt st (st .x .process .0) .next .0 ≡ suc (st .x .number .0)) (p : Process) where
+module _ {st : State} (c : Calls ℕ) (known : KnownIn st c) (ready : Ready st) (following : recordAt (viewOf st) (st .x .process .0) .next .0 ≡ suc (st .x .number .0)) (p : Process) where
   abbrev pub Gone : Kind → State → Outcome → Bool → Type 0
   Gone k st′ o b =
       KnownIn st′ (goOn stepOfStore c (came st p k o)) × RightRecord c (entryOf p k) (noteWith st p k o) × (b ≡ decidesIn stepOfStore c (came st p k o))
@@ -229,17 +229,17 @@ module _ {st : State} (c : Calls ℕ) (known : KnownIn st c) (ready : Ready st) 
 
   module _ (l : p .0 < st .n) where
     -- the rank of the step that p takes is the number of its own steps with this one
-    rank-of : {place : Place} → recordAt st (p .0) .place ≡ place → suc (c .steps (p .0)) ≡ ownSteps place → ownSteps (recordAt st (p .0) .place) ≡ suc (c .steps (p .0))
+    rank-of : {place : Place} → recordAt (viewOf st) (p .0) .place ≡ place → suc (c .steps (p .0)) ≡ ownSteps place → ownSteps (recordAt (viewOf st) (p .0) .place) ≡ suc (c .steps (p .0))
     rank-of e counted = ap ownSteps e ∙ sym counted
 
     -- an entry after which the call goes on, and whether it decides a store
-    goes-on : {st′ : State} {place : Place} (b : Bool) → decides stepOfStore c (p .0) ≡ b
-        → Known st′ (suc (c .now)) (c .asked) (c .word) (c .op) (put (p .0) (suc (c .steps (p .0))) (c .steps)) (cond b (c .played ++ callBy c (p .0) done ∷ []) (c .played)) (c .replies)
-        → recordAt st (p .0) .place ≡ place → suc (c .steps (p .0)) ≡ ownSteps place → MayGoOn (c .op (p .0)) (suc (c .steps (p .0)))
+    goes-on : (st′ : State) {place : Place} (b : Bool) → decides stepOfStore c (p .0) ≡ b
+        → Known (viewOf st′) (suc (c .now)) (c .asked) (c .word) (c .op) (put (p .0) (suc (c .steps (p .0))) (c .steps)) (cond b (c .played ++ callBy c (p .0) done ∷ []) (c .played)) (c .replies)
+        → recordAt (viewOf st) (p .0) .place ≡ place → suc (c .steps (p .0)) ≡ ownSteps place → MayGoOn (c .op (p .0)) (suc (c .steps (p .0)))
         → Gone Step st′ GoesOn b
-    goes-on {st′} b d known′ e counted may = (
+    goes-on st′ b d known′ e counted may = (
       subst
-          (λ (b : Bool). Known st′ (suc (c .now)) (c .asked) (c .word) (c .op) (put (p .0) (suc (c .steps (p .0))) (c .steps)) (cond b (c .played ++ callBy c (p .0) done ∷ []) (c .played)) (c .replies))
+          (λ (b : Bool). Known (viewOf st′) (suc (c .now)) (c .asked) (c .word) (c .op) (put (p .0) (suc (c .steps (p .0))) (c .steps)) (cond b (c .played ++ callBy c (p .0) done ∷ []) (c .played)) (c .replies))
           (sym d) known′,
       record { process = refl; steps = rank-of e counted; mark = refl; value = refl; inTurn = may },
       sym d,
@@ -270,11 +270,11 @@ module _ {st : State} (c : Calls ℕ) (known : KnownIn st c) (ready : Ready st) 
               (known-request known (p .0) l 0 check m (new _ (put-same (p .0) check (c .op))), record { process = refl; steps = refl; mark = refl; value = refl; inTurn = tt }, refl);
           step-1 = λ e st′ x m.
               let o = known-at known (p .0) l e in
-              goes-on false (decides-at c (p .0) 1 false (load-stores (o .0 .asks)) (o .0 .counted)) (known-quiet known (p .0) l m (next-step (c .steps) (o .0), o .1))
+              goes-on st′ false (decides-at c (p .0) 1 false (load-stores (o .0 .asks)) (o .0 .counted)) (known-quiet known (p .0) l m (next-step (c .steps) (o .0), o .1))
               e (o .0 .counted) (may-load (o .0 .asks) (o .0 .counted) (omega arith));
           step-2 = λ e st′ x m.
               let o = known-at known (p .0) l e in
-              goes-on false (decides-at c (p .0) 2 false (load-stores (o .0 .asks)) (o .0 .counted)) (known-quiet known (p .0) l m (next-step (c .steps) (o .0), o .1))
+              goes-on st′ false (decides-at c (p .0) 2 false (load-stores (o .0 .asks)) (o .0 .counted)) (known-quiet known (p .0) l m (next-step (c .steps) (o .0), o .1))
               e (o .0 .counted) (may-load (o .0 .asks) (o .0 .counted) (omega arith));
           step-3-answers = λ v e near st′ x m.
               let o = known-at known (p .0) l e in (
@@ -290,7 +290,7 @@ module _ {st : State} (c : Calls ℕ) (known : KnownIn st c) (ready : Ready st) 
               );
           step-3-goes-on = λ v e far st′ x m.
               let o = known-at known (p .0) l e in
-              goes-on false (decides-at c (p .0) 3 false (load-stores (o .0 .asks)) (o .0 .counted)) (known-quiet known (p .0) l m (next-step (c .steps) (o .0), o .1))
+              goes-on st′ false (decides-at c (p .0) 3 false (load-stores (o .0 .asks)) (o .0 .counted)) (known-quiet known (p .0) l m (next-step (c .steps) (o .0), o .1))
               e (o .0 .counted) (may-load (o .0 .asks) (o .0 .counted) (omega arith));
           step-5 = λ e st′ x m.
               let o = known-at known (p .0) l e in (
@@ -306,18 +306,18 @@ module _ {st : State} (c : Calls ℕ) (known : KnownIn st c) (ready : Ready st) 
               );
           step-7 = λ v e st′ x m.
               let o = known-at known (p .0) l e in
-              goes-on false (decides-at c (p .0) 1 true (o .0 .asks) (o .0 .counted)) (known-quiet known (p .0) l m (next-step (c .steps) (o .0), o .1))
+              goes-on st′ false (decides-at c (p .0) 1 true (o .0 .asks) (o .0 .counted)) (known-quiet known (p .0) l m (next-step (c .steps) (o .0), o .1))
               e (o .0 .counted) (may-store (o .0 .asks) (o .0 .counted) (omega arith));
           step-8-done = λ e same st′ x m.
               let o = known-at known (p .0) l e in
-              goes-on true (decides-at c (p .0) 2 true (o .0 .asks) (o .0 .counted)) (known-done known (p .0) l refl m o)
+              goes-on st′ true (decides-at c (p .0) 2 true (o .0 .asks) (o .0 .counted)) (known-done known (p .0) l refl m o)
               e (o .0 .counted) (may-store (o .0 .asks) (o .0 .counted) (omega arith));
           step-8-not-done = λ e other st′ x m.
               let o = known-at known (p .0) l e in
               (known-both known (p .0) l notDone refl m o, record { process = refl; steps = rank-of e (o .0 .counted); mark = refl; value = refl; inTurn = (o .0 .asks, o .0 .counted) }, refl);
           step-9 = λ e st′ x m.
               let o = known-at known (p .0) l e in
-              goes-on false (decides-at c (p .0) 3 true (o .0 .asks) (o .0 .counted))
+              goes-on st′ false (decides-at c (p .0) 3 true (o .0 .asks) (o .0 .counted))
               (known-quiet known (p .0) l m (next-step (c .steps) (o .0), (o .1 .0, omega (arith, o .1 .1), o .1 .2)))
               e (o .0 .counted) (may-store (o .0 .asks) (o .0 .counted) (omega arith));
           step-10 = λ e st′ x m.

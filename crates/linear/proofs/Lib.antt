@@ -3,10 +3,11 @@
 --     Agree         the definitions of the calls at document 01's runs
 --     Lift          old numbers as natural numbers; the only place that opens step 3's test (guard-low, guard-high)
 --     History       the changes so far and their places (At, Sorted)
+--     View          the machine as the invariants see it (View, viewOf, Moved)
 --     Invariant     what holds of the machine after each entry (One, Inv), with document 001's numbers
 --     Consequences  what follows with no step taken (number-low, current, not-top, old-place, tag-test)
 --     Start         the invariants at the start
---     Moved         what an entry leaves of a state: X, its process's row and record (Moved, Left)
+--     Moved         what an entry leaves of a state: X, its process's row and record (Left)
 --     Kept          every step keeps the invariants: the frame, the calm steps, and 7, 8, 9, 10
 --     Cases         what an entry can come to, case by case (Cases, by-cases)
 --     Noted         an entry's record by its outcome, and the item that it tells
@@ -36,3 +37,4 @@ pub mod Side
 pub mod Simulated
 pub mod Start
 pub mod Values
+pub mod View

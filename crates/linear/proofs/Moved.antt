@@ -7,32 +7,27 @@ use mathlib.Core.Bool.{Bool, true, false, cond}
 use native.Mathlib.Omega.{arith}
 use lib.Dec.{leb, ltb}
 use borrow.Author.Tests.{lt-ltb, ltb-true, le-leb}
-use Rattle.linear.specs.Types.{Process, Row, Record, Kind, Ask, Step, Request, Place, Idle, Load1, Load2, Load3, Load5, Store7, Store8, Store9, Store10, Check14, Stepped, NoProcess, State, Answer}
+use Rattle.linear.specs.Types.{Process, Row, Kind, Ask, Step, Request, Place, Idle, Load1, Load2, Load3, Load5, Store7, Store8, Store9, Store10, Check14, Stepped, NoProcess, State, Answer}
 use Rattle.numbers.proofs.Range.{range-of}
 use Rattle.step.specs.Steps.{isNear, sameTag, stepAt, stepOf, reachedAt, largestNext, requestOf}
 use Rattle.step.proofs.Reach.{either-way}
 use Rattle.machine.specs.State.{rowAt, recordAt}
 use Rattle.machine.specs.Entry.{withParts, withEntry, refused, entered, called}
-use Rattle.machine.specs.Frame.{Frame, Ready}
+use Rattle.machine.specs.Frame.{Ready}
 use Rattle.machine.proofs.Soundness.{sure}
 use Rattle.machine.proofs.Writers.{row-same, row-kept, record-same}
 use Rattle.machine.proofs.Frame.{frame}
+use Rattle.linear.proofs.View.{viewOf, frame-of, Moved}
 
 -- the process in a kept tag is below N
 pub tag-below : (st : State) (p : ℕ) → Ready st → p < st .n → recordAt st p .kept .process .0 < st .n
 tag-below st p ready l = sure ready .each p l .kept .owner
 
--- p's row is r′ and p's record is o′, and of the others nothing has changed
-pub record Moved (p : ℕ) (st st′ : State) (r′ : Row) (o′ : Record) : Type 0 where
-  pub frame : Frame p st st′
-  pub row : rowAt st′ p ≡ r′
-  pub own : recordAt st′ p ≡ o′
-
 -- what an entry of p that leaves m comes to
 pub record Left (p : ℕ) (st : State) (m : Stepped) (r′ : Row) (a : Answer) : Type 0 where
   pub outcome : a .outcome ≡ m .outcome
   pub x : a .state .x ≡ m .x
-  pub moved : Moved p st (a .state) r′ (m .own)
+  pub moved : Moved p (viewOf st) (viewOf (a .state)) r′ (m .own)
 
 -- p's own row after a step: only 7, 9 and 10 write into it
 abbrev pub rowLeft : Place → Row → Stepped → Row
@@ -85,7 +80,7 @@ module _ (st : State) (p : Process) (ready : Ready st) where
           outcome = ap (λ (a : Answer). a .outcome) e ∙ outcome;
           x = ap (λ (a : Answer). a .state .x) e ∙ x;
           moved = record {
-            frame = frame st p k;
+            frame = frame-of st (called st p k .state) (frame st p k);
             row = ap (λ (a : Answer). rowAt (a .state) (p .0)) e ∙ row;
             own = ap (λ (a : Answer). recordAt (a .state) (p .0)) e ∙ own;
           };

@@ -9,8 +9,8 @@ use mathlib.Core.Logic.{_≢_, _⊎_, inl, inr}
 use mathlib.Core.List.{List, [], _∷_, _++_}
 use native.Mathlib.Omega.{arith}
 use borrow.Author.Tests.{ne-eqb}
-use Rattle.linear.specs.Types.{Row, Record, Place, Idle, Load1, Load2, Load3, Load5, Store7, Store8, Store9, Store10, Check14, State}
-use Rattle.machine.specs.State.{rowAt, recordAt}
+use Rattle.linear.specs.Types.{Row, Record, Place, Idle, Load1, Load2, Load3, Load5, Store7, Store8, Store9, Store10, Check14}
+use Rattle.linear.proofs.View.{View, rowAt, recordAt}
 use Rattle.word.specs.Word.{Link, at, Op, load, store, check, linked, first, Call}
 use Rattle.word.specs.Word as word
 use Rattle.word.proofs.Play.{after, after-snoc}
@@ -80,7 +80,7 @@ SideAt v now order q t op r own sn = Side v now order q t op r (own .next .0) (o
 
 -- There are changes and an order such that the order is good, the machine keeps its invariants with the latest steps 1, the count is the
 -- number of changes, and after each change the word had that change's value.
-pub record Sim (v : ℕ) (st : State) (now : ℕ) (asked : ℕ → ℕ) (op : ℕ → Op ℕ) (played : List (Call ℕ)) (seen : ℕ → Link) (changes : ℕ) : Type 0 where
+pub record Sim (v : ℕ) (st : View) (now : ℕ) (asked : ℕ → ℕ) (op : ℕ → Op ℕ) (played : List (Call ℕ)) (seen : ℕ → Link) (changes : ℕ) : Type 0 where
   pub h : List Change
   pub order : List (Call ℕ)
   pub good : Good v now order played

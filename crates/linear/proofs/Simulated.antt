@@ -32,6 +32,7 @@ use Rattle.linear.proofs.Lift.{guard-low}
 use Rattle.linear.proofs.History.{At}
 use Rattle.linear.proofs.Invariant.{slotOf}
 use Rattle.linear.proofs.Consequences.{place-low, old-place, tag-test}
+use Rattle.linear.proofs.View.{View, viewOf}
 use Rattle.linear.proofs.Moved.{tag-below}
 use Rattle.linear.proofs.Kept.{one-at, seen-at, kept-calm, kept-1, kept-2, kept-3, kept-7, kept-8, kept-9, kept-10}
 use Rattle.linear.proofs.Start.{idle-start, firstChange, inv-start}
@@ -43,7 +44,7 @@ use Rattle.linear.proofs.Known.{KnownIn, known-at, decides-at, load-sto
 
 -- the calls, the marks, and that every call is on word 0
 pub record Simulated (v : ℕ) (st : State) (c : Calls ℕ) (m : Marks) : Type 0 where
-  pub sim : Sim v st (c .now) (c .asked) (c .op) (c .played) (m .latest) (m .changes)
+  pub sim : Sim v (viewOf st) (c .now) (c .asked) (c .op) (c .played) (m .latest) (m .changes)
   pub one : (q : ℕ) → c .word q ≡ 0
 
 pub sim-start : (n : ℕ) (s : Sequence) (v : ℕ) → inRange n s ≡ true → Simulated v (firstState n s v) noCalls noMarks
@@ -93,7 +94,7 @@ module _ {v : ℕ} {st : State} (c : Calls ℕ) (m : Marks) (simulated : Simulat
   abbrev pub Next : Kind → State → Outcome → Bool → Type 0
   Next k st′ o b = Simulated v st′ (goOn stepOfStore c (came st p k o)) (markOn c m (came st p k o)) × LinkedAt c m (came st p k o)
 
-  abbrev s : Sim v st (c .now) (c .asked) (c .op) (c .played) (m .latest) (m .changes)
+  abbrev s : Sim v (viewOf st) (c .now) (c .asked) (c .op) (c .played) (m .latest) (m .changes)
   s = simulated .sim
 
   away-next : (k : Kind) (o : Outcome) → turnedAway o ≡ true → Next k st o false
@@ -106,7 +107,7 @@ module _ {v : ℕ} {st : State} (c : Calls ℕ) (m : Marks) (simulated : Simulat
   asked-one = split (λ q. put (p .0) 0 (c .word) q ≡ 0) (p .0) (put-same (p .0) 0 (c .word)) (λ q ne. put-other (p .0) 0 (c .word) q ne ∙ simulated .one q)
 
   -- a call that is played on word 0 is played on its own
-  on-own-word : {st′ : State} {now : ℕ} {changes : ℕ} (o : Op ℕ) (a : Answer ℕ)
+  on-own-word : {st′ : View} {now : ℕ} {changes : ℕ} (o : Op ℕ) (a : Answer ℕ)
       → Sim v st′ now (c .asked) (c .op) (c .played ++ record { asked = c .asked (p .0); decided = c .now; process = p .0; word = 0; op = o; answer = a } ∷ []) (m .latest) changes
       → Sim v st′ now (c .asked) (c .op) (c .played ++ record { asked = c .asked (p .0); decided = c .now; process = p .0; word = c .word (p .0); op = o; answer = a } ∷ []) (m .latest) changes
   on-own-word {st′} {now} {changes} o a =
@@ -116,7 +117,7 @@ module _ {v : ℕ} {st : State} (c : Calls ℕ) (m : Marks) (simulated : Simulat
 
   -- a step after which the call goes on: whether it decides a store (d), and whether it is a load's first (f)
   goes-on : {st′ : State} (d f : Bool) → decides stepOfStore c (p .0) ≡ d → (isLoad (c .op (p .0)) && eqb (c .steps (p .0)) 0) ≡ f
-      → Sim v st′ (suc (c .now)) (c .asked) (c .op) (cond d (c .played ++ callBy c (p .0) done ∷ []) (c .played))
+      → Sim v (viewOf st′) (suc (c .now)) (c .asked) (c .op) (cond d (c .played ++ callBy c (p .0) done ∷ []) (c .played))
       (cond f (put (p .0) (word.at (m .changes)) (m .latest)) (m .latest)) (cond d (suc (m .changes)) (m .changes))
       → (d ≡ true → linked (m .latest (p .0)) (m .changes) ≡ true)
       → Next Step st′ GoesOn d
@@ -124,7 +125,7 @@ module _ {v : ℕ} {st : State} (c : Calls ℕ) (m : Marks) (simulated : Simulat
     record {
       sim =
           subst₂
-          (λ (d f : Bool). Sim v st′ (suc (c .now)) (c .asked) (c .op) (cond d (c .played ++ callBy c (p .0) done ∷ []) (c .played))
+          (λ (d f : Bool). Sim v (viewOf st′) (suc (c .now)) (c .asked) (c .op) (cond d (c .played ++ callBy c (p .0) done ∷ []) (c .played))
           (cond f (put (p .0) (word.at (m .changes)) (m .latest)) (m .latest)) (cond d (suc (m .changes)) (m .changes)))
           (sym e) (sym g) sim;
       one = simulated .one;
@@ -135,14 +136,14 @@ module _ {v : ℕ} {st : State} (c : Calls ℕ) (m : Marks) (simulated : Simulat
   module _ (l : p .0 < st .n) where
     -- a load's step that goes on, its rank not 1; a store's that decides nothing
     load-goes : {st′ : State} (n : ℕ) → c .op (p .0) ≡ load → suc (c .steps (p .0)) ≡ suc (suc n)
-        → Sim v st′ (suc (c .now)) (c .asked) (c .op) (c .played) (m .latest) (m .changes) → Next Step st′ GoesOn false
+        → Sim v (viewOf st′) (suc (c .now)) (c .asked) (c .op) (c .played) (m .latest) (m .changes) → Next Step st′ GoesOn false
     load-goes n o k sim =
         let later : eqb (c .steps (p .0)) 0 ≡ false = ne-eqb (c .steps (p .0)) 0 (λ z. omega (arith, k, z)) in
         goes-on false false (decides-at c (p .0) (suc (suc n)) false (load-stores o) k)
         (ap (λ (b : Bool). isLoad (c .op (p .0)) && b) later ∙ and-no (isLoad (c .op (p .0)))) sim (λ t. absurd (false≢true t))
 
     store-goes : {st′ : State} (n : ℕ) → (true && eqb n stepOfStore) ≡ false → isStore (c .op (p .0)) ≡ true → suc (c .steps (p .0)) ≡ n
-        → Sim v st′ (suc (c .now)) (c .asked) (c .op) (c .played) (m .latest) (m .changes) → Next Step st′ GoesOn false
+        → Sim v (viewOf st′) (suc (c .now)) (c .asked) (c .op) (c .played) (m .latest) (m .changes) → Next Step st′ GoesOn false
     store-goes n other o k sim =
         goes-on false false (decides-at c (p .0) n true o k ∙ other)
         (ap (λ (b : Bool). b && eqb (c .steps (p .0)) 0) (store-no-load (c .op (p .0)) o)) sim (λ t. absurd (false≢true t))
@@ -153,7 +154,7 @@ module _ {v : ℕ} {st : State} (c : Calls ℕ) (m : Marks) (simulated : Simulat
           asks-load = λ e st′ x mv. (
             record {
               sim =
-                  sim-request s (p .0) l load mv (kept-calm st (p .0) (s .inv) l Idle Load1 e refl refl mv x tt)
+                  sim-request s (p .0) l load mv (kept-calm (viewOf st) (p .0) (s .inv) l Idle Load1 e refl refl mv x tt)
                   (λ und. record { link = side-at s (p .0) l e .link; call = und });
               one = asked-one;
             },
@@ -162,7 +163,7 @@ module _ {v : ℕ} {st : State} (c : Calls ℕ) (m : Marks) (simulated : Simulat
           asks-store = λ u e st′ x mv. (
             record {
               sim =
-                  sim-request s (p .0) l (store u) mv (kept-calm st (p .0) (s .inv) l Idle (Store7 u) e refl refl mv x tt)
+                  sim-request s (p .0) l (store u) mv (kept-calm (viewOf st) (p .0) (s .inv) l Idle (Store7 u) e refl refl mv x tt)
                   (λ und. record { link = side-at s (p .0) l e .link; call = und });
               one = asked-one;
             },
@@ -171,7 +172,7 @@ module _ {v : ℕ} {st : State} (c : Calls ℕ) (m : Marks) (simulated : Simulat
           asks-check = λ e st′ x mv. (
             record {
               sim =
-                  sim-request s (p .0) l check mv (kept-calm st (p .0) (s .inv) l Idle Check14 e refl refl mv x tt)
+                  sim-request s (p .0) l check mv (kept-calm (viewOf st) (p .0) (s .inv) l Idle Check14 e refl refl mv x tt)
                   (λ und. record { link = side-at s (p .0) l e .link; call = und });
               one = asked-one;
             },
@@ -181,23 +182,23 @@ module _ {v : ℕ} {st : State} (c : Calls ℕ) (m : Marks) (simulated : Simulat
               let o = known-at known (p .0) l e .0 in
               goes-on false true (decides-at c (p .0) 1 false (load-stores (o .asks)) (o .counted))
               (ap (λ (j : Op ℕ). isLoad j && eqb (c .steps (p .0)) 0) (o .asks) ∙ ap (λ (j : ℕ). eqb j 0) (none-yet (o .counted)))
-              (subst (λ (t : ℕ). Sim v st′ (suc (c .now)) (c .asked) (c .op) (c .played) (put (p .0) (word.at t) (m .latest)) (m .changes)) (s .count)
-              (sim-quiet s (p .0) l (word.at (total 0 (s .order))) mv (kept-1 st (p .0) (s .inv) l e mv x)
+              (subst (λ (t : ℕ). Sim v (viewOf st′) (suc (c .now)) (c .asked) (c .op) (c .played) (put (p .0) (word.at t) (m .latest)) (m .changes)) (s .count)
+              (sim-quiet s (p .0) l (word.at (total 0 (s .order))) mv (kept-1 (viewOf st) (p .0) (s .inv) l e mv x)
               (record { link = tt; call = (undecided-on (way-same v (c .now) (s .order) (p .0)) (side-at s (p .0) l e .call), first-seen) })))
               (λ t. absurd (false≢true t));
           step-2 = λ e st′ x mv.
               let o = known-at known (p .0) l e .0 in
               load-goes 0 (o .asks) (o .counted)
-              (sim-still s (p .0) l mv (kept-2 st (p .0) (s .inv) l (tag-below st (p .0) ready l) e mv x)
+              (sim-still s (p .0) l mv (kept-2 (viewOf st) (p .0) (s .inv) l (tag-below st (p .0) ready l) e mv x)
               (record { link = tt; call = loading-on (way-same v (c .now) (s .order) (p .0)) (side-at s (p .0) l e .call) }));
           step-3-answers = λ u e near st′ x mv.
-              let (i, sn, f) = one-at st (p .0) (s .inv) l e .stage in
+              let (i, sn, f) = one-at (viewOf st) (p .0) (s .inv) l e .stage in
               let a = f (guard-low (rowAt st (recordAt st (p .0) .kept .process .0) .«old_number») (recordAt st (p .0) .kept .number .0) near) in (
                 record {
                   sim =
                       on-own-word (c .op (p .0)) (value u)
                       (sim-load s (p .0) l i i (recordAt st (p .0) .kept .process .0) (recordAt st (p .0) .kept .number .0) u refl mv
-                      (kept-calm st (p .0) (s .inv) l (Load3 u) Idle e refl refl mv x tt)
+                      (kept-calm (viewOf st) (p .0) (s .inv) l (Load3 u) Idle e refl refl mv x tt)
                       (side-at s (p .0) l e .call .0) (side-at s (p .0) l e .call .1) sn (omega arith) a
                       (link-here (total 0 (s .order)) i (place-low (s .inv) i _ _ _ a)));
                   one = simulated .one;
@@ -208,17 +209,17 @@ module _ {v : ℕ} {st : State} (c : Calls ℕ) (m : Marks) (simulated : Simulat
               let o = known-at known (p .0) l e .0 in
               load-goes 1 (o .asks) (o .counted)
               (sim-still s (p .0) l mv
-              (kept-3 st (p .0) (s .inv) l u (st .s .0) (tag-below st (p .0) ready l) (sure ready .each (recordAt st (p .0) .kept .process .0) (tag-below st (p .0) ready l) .old) e far mv x)
+              (kept-3 (viewOf st) (p .0) (s .inv) l u (st .s .0) (tag-below st (p .0) ready l) (sure ready .each (recordAt st (p .0) .kept .process .0) (tag-below st (p .0) ready l) .old) e far mv x)
               (record { link = tt; call = loading-on (way-same v (c .now) (s .order) (p .0)) (side-at s (p .0) l e .call) }));
           step-5 = λ e st′ x mv.
-              let (i, sn, high) = one-at st (p .0) (s .inv) l e .stage in
-              let (u, a) = seen-at st (p .0) (s .inv) l i sn in
+              let (i, sn, high) = one-at (viewOf st) (p .0) (s .inv) l e .stage in
+              let (u, a) = seen-at (viewOf st) (p .0) (s .inv) l i sn in
               let (n, le, lt, j, b) = old-place (s .inv) i (recordAt st (p .0) .kept .process .0) (recordAt st (p .0) .kept .number .0) u (tag-below st (p .0) ready l) a high in (
                 record {
                   sim =
                       on-own-word (c .op (p .0)) (value _)
                       (sim-load s (p .0) l i n (recordAt st (p .0) .kept .process .0) j _ refl mv
-                      (kept-calm st (p .0) (s .inv) l Load5 Idle e refl refl mv x tt)
+                      (kept-calm (viewOf st) (p .0) (s .inv) l Load5 Idle e refl refl mv x tt)
                       (side-at s (p .0) l e .call .0) (side-at s (p .0) l e .call .1) sn le b
                       (inr (lt, omega (arith, le, lt))));
                   one = simulated .one;
@@ -229,7 +230,7 @@ module _ {v : ℕ} {st : State} (c : Calls ℕ) (m : Marks) (simulated : Simulat
               let o = known-at known (p .0) l e .0 in
               let und = undecided-on (way-same v (c .now) (s .order) (p .0)) (side-at s (p .0) l e .call) in
               store-goes 1 refl (o .asks) (o .counted)
-              (sim-still s (p .0) l mv (kept-7 st (p .0) (s .inv) l u e mv x)
+              (sim-still s (p .0) l mv (kept-7 (viewOf st) (p .0) (s .inv) l u e mv x)
               (record {
                 link = side-at s (p .0) l e .link;
                 call = record { kind = und .kind ∙ ap store (sym (written u)); before = und .before; own = und .own };
@@ -238,14 +239,14 @@ module _ {v : ℕ} {st : State} (c : Calls ℕ) (m : Marks) (simulated : Simulat
               let o = known-at known (p .0) l e .0 in
               goes-on true false (decides-at c (p .0) 2 true (o .asks) (o .counted)) (ap (λ (b : Bool). b && eqb (c .steps (p .0)) 0) (store-no-load (c .op (p .0)) (o .asks)))
               (on-own-word (c .op (p .0)) done
-              (sim-done s (p .0) l refl mv (kept-8 st (p .0) (s .inv) l e x mv) (side-at s (p .0) l e .call) (side-at s (p .0) l e .link) same))
+              (sim-done s (p .0) l refl mv (kept-8 (viewOf st) (p .0) (s .inv) l e x mv) (side-at s (p .0) l e .call) (side-at s (p .0) l e .link) same))
               (λ t. tested same);
           step-8-not-done = λ e other st′ x mv. (
             record {
               sim =
                   on-own-word (c .op (p .0)) notDone
                   (sim-append s (p .0) l (store (slotOf (rowAt st (p .0)) (recordAt st (p .0) .next .0))) notDone refl mv
-                  (kept-calm st (p .0) (s .inv) l Store8 Idle e refl refl mv x tt) (side-at s (p .0) l e .call) tt refl (side-at s (p .0) l e .link)
+                  (kept-calm (viewOf st) (p .0) (s .inv) l Store8 Idle e refl refl mv x tt) (side-at s (p .0) l e .call) tt refl (side-at s (p .0) l e .link)
                   (ap (λ (b : Bool). cond b done notDone) (agree s (p .0) l (side-at s (p .0) l e .link) ∙ other)));
               one = simulated .one;
             },
@@ -254,10 +255,10 @@ module _ {v : ℕ} {st : State} (c : Calls ℕ) (m : Marks) (simulated : Simulat
           step-9 = λ e st′ x mv.
               let o = known-at known (p .0) l e .0 in
               store-goes 3 refl (o .asks) (o .counted)
-              (sim-still s (p .0) l mv (kept-9 st (p .0) (s .inv) l e mv x) (record { link = side-at s (p .0) l e .link; call = tt }));
+              (sim-still s (p .0) l mv (kept-9 (viewOf st) (p .0) (s .inv) l e mv x) (record { link = side-at s (p .0) l e .link; call = tt }));
           step-10 = λ e st′ x mv. (
             record {
-              sim = sim-still s (p .0) l mv (kept-10 st (p .0) (s .inv) l e mv x) (record { link = side-at s (p .0) l e .link; call = tt });
+              sim = sim-still s (p .0) l mv (kept-10 (viewOf st) (p .0) (s .inv) l e mv x) (record { link = side-at s (p .0) l e .link; call = tt });
               one = simulated .one;
             },
             tt,
@@ -267,7 +268,7 @@ module _ {v : ℕ} {st : State} (c : Calls ℕ) (m : Marks) (simulated : Simulat
               sim =
                   on-own-word (c .op (p .0)) saysYes
                   (sim-append s (p .0) l check saysYes refl mv
-                  (kept-calm st (p .0) (s .inv) l Check14 Idle e refl refl mv x tt) (side-at s (p .0) l e .call) tt refl (side-at s (p .0) l e .link)
+                  (kept-calm (viewOf st) (p .0) (s .inv) l Check14 Idle e refl refl mv x tt) (side-at s (p .0) l e .call) tt refl (side-at s (p .0) l e .link)
                   (ap (λ (b : Bool). cond b saysYes saysNo) (agree s (p .0) l (side-at s (p .0) l e .link) ∙ same)));
               one = simulated .one;
             },
@@ -278,7 +279,7 @@ module _ {v : ℕ} {st : State} (c : Calls ℕ) (m : Marks) (simulated : Simulat
               sim =
                   on-own-word (c .op (p .0)) saysNo
                   (sim-append s (p .0) l check saysNo refl mv
-                  (kept-calm st (p .0) (s .inv) l Check14 Idle e refl refl mv x tt) (side-at s (p .0) l e .call) tt refl (side-at s (p .0) l e .link)
+                  (kept-calm (viewOf st) (p .0) (s .inv) l Check14 Idle e refl refl mv x tt) (side-at s (p .0) l e .call) tt refl (side-at s (p .0) l e .link)
                   (ap (λ (b : Bool). cond b saysYes saysNo) (agree s (p .0) l (side-at s (p .0) l e .link) ∙ other)));
               one = simulated .one;
             },

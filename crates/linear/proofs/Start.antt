@@ -14,6 +14,7 @@ use Rattle.machine.specs.State.{rowAt, recordAt, noRow, noRecord, firstRow, fir
 use Rattle.numbers.proofs.Range.{range-of}
 use Rattle.word.specs.Word.{none}
 use Rattle.linear.proofs.History.{Change, At}
+use Rattle.linear.proofs.View.{viewOf}
 use Rattle.linear.proofs.Invariant.{slotOf, OneAt, Inv}
 
 -- everybody is idle
@@ -24,7 +25,7 @@ idle-start n s v (suc j) l = ap (λ (o : Record). o .place) (getD-replicate 15 j
 abbrev pub firstChange : ℕ → Change
 firstChange v = record { process = 0; number = 1; value = v }
 
-pub inv-start : (n : ℕ) (s : Sequence) (v : ℕ) → inRange n s ≡ true → Inv (firstState n s v) 0 (firstChange v ∷ []) (λ q. none)
+pub inv-start : (n : ℕ) (s : Sequence) (v : ℕ) → inRange n s ≡ true → Inv (viewOf (firstState n s v)) 0 (firstChange v ∷ []) (λ q. none)
 inv-start n s v e =
     record {
       size = refl;
@@ -39,7 +40,7 @@ inv-start n s v e =
     only i q k u (inl f) = (f .1, f .2)
     only i q k u (inr a) = absurd a
 
-    each : (q : ℕ) → q < 16 → OneAt (firstState n s v) (firstChange v ∷ []) q (rowAt (firstState n s v) q) (recordAt (firstState n s v) q) none
+    each : (q : ℕ) → q < 16 → OneAt (viewOf (firstState n s v)) (firstChange v ∷ []) q (rowAt (firstState n s v) q) (recordAt (firstState n s v) q) none
     each zero l =
         record {
           below = λ i k u a. omega (arith, only i 0 k u a);
@@ -54,7 +55,7 @@ inv-start n s v e =
         one : (j : ℕ) → suc j ≡ 2 → 1 ≡ j
         one j b = omega arith
     each (suc j) l =
-        subst₂ (λ (r : Row) (o : Record). OneAt (firstState n s v) (firstChange v ∷ []) (suc j) r o none)
+        subst₂ (λ (r : Row) (o : Record). OneAt (viewOf (firstState n s v)) (firstChange v ∷ []) (suc j) r o none)
         (sym (getD-replicate 15 j (firstRow v (negsuc 0)) noRow (omega (arith, l))))
         (sym (getD-replicate 15 j (firstRecord 1) noRecord (omega (arith, l))))
         (record {
