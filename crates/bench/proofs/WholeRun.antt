@@ -42,7 +42,7 @@ module _ (f : List ℕ) (n s v c : ℕ) (is : reading f ≡ Accepted n s v c) wh
   unfolding startOf
   start-is =
       ap
-      (λ (b : Bool). cond {A = Started} b (record { state = firstState n (record { 0 = s }) v; start = Start.Ready }) (record { state = zeroState; start = Start.OutOfRange }) .state)
+      (λ (b : Bool). cond {A = Started} b (record { state = firstState n (record { 0 = s }) v; start = Start.InRange }) (record { state = zeroState; start = Start.OutOfRange }) .state)
       range
 
   ready : Ready (startState n s v)

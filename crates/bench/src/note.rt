@@ -14,7 +14,7 @@ use step::Tag;
 use step::answer::tell;
 use step::number::same_tag;
 
-// The log's record of an entry that stood before `place` and came to `outcome`.
+// The log's record of an entry whose process stood at `place` and that came to `outcome`.
 pub fn note_of(process: u8, kind: Kind, place: Place, outcome: Outcome) -> Note
     ensures { λ r. ⌜ r ≡ recordFrom process kind place outcome ⌝ }
 {

@@ -32,7 +32,7 @@ fn seal_all(file: &mut [u8], blocks: usize)
 }
 
 // Block 0 of a file with V 7.
-fn lay_head(file: &mut [u8], n: u8, s: u8, later: u8)
+fn lay_first(file: &mut [u8], n: u8, s: u8, later: u8)
     requires { ⌜ 512 ≤ length (now file) ⌝ }
 {
     file[2] = n;
@@ -71,7 +71,7 @@ fn try_file(name: &[u8], file: &[u8], log: &mut [u8]) {
 fn try_head(name: &[u8], n: u8, s: u8) {
     let mut file = [0u8; 512];
     let mut log = [0u8; 12];
-    lay_head(&mut file, n, s, 0);
+    lay_first(&mut file, n, s, 0);
     seal(&mut file, 0);
     try_file(name, &file, &mut log);
 }
@@ -81,7 +81,7 @@ fn try_lengths() {
     let mut file = [0u8; 66048];
     let mut log = [0u8; 12];
     try_file(b"length 0: ", &file[0..0], &mut log);
-    lay_head(&mut file, 2, 9, 127);
+    lay_first(&mut file, 2, 9, 127);
     seal_all(&mut file, 129);
     try_file(b"length 65,536: ", &file[0..65536], &mut log);
     try_file(b"length 66,048: ", &file, &mut log);
@@ -111,7 +111,7 @@ fn try_full_run() {
     let mut file = [0u8; 1024];
     let mut log = [0u8; 144];
     let mut short = [0u8; 143];
-    lay_head(&mut file, 2, 9, 1);
+    lay_first(&mut file, 2, 9, 1);
     lay_count(&mut file, 11);
     lay_entry(&mut file, 0, 1, 1, 0);
     lay_entry(&mut file, 1, 4, 1, 0);

@@ -21,8 +21,8 @@ reply place asked p o steps a = record { place = place; asked = asked; process =
 
 abbrev pub Reads : List Line → List (Call ℕ) → List (Reply ℕ) → Type 0
 Reads lines played replies =
-    (callsIn (map (λ l. l .entry) lines) (map (λ l. inLog (l .says)) lines) .played ≡ played)
-    × (callsIn (map (λ l. l .entry) lines) (map (λ l. inLog (l .says)) lines) .replies ≡ replies)
+    (callsIn (map (λ l. l .entry) lines) (map (λ l. inLog (l .logged)) lines) .played ≡ played)
+    × (callsIn (map (λ l. l .entry) lines) (map (λ l. inLog (l .logged)) lines) .replies ≡ replies)
 
 pub record CallsOfRuns : Type 0 where
   -- "C: VL0 at the start: no."

@@ -1,7 +1,8 @@
 -- What an entry can come to, case by case: the one place where the steps' definitions are looked at. `G kind st′ outcome changed` is
 -- whatever is to be shown of the entry's kind, the state after it, its outcome, and whether X has changed.
 -- Assumes nothing.
-use Prim.Native.Nat.{ℕ, suc, _+_, _<_}
+use Prim.Native.Nat.{ℕ, suc, _+_, _≤_, _<_}
+use mathlib.Core.Logic.{_⊎_, inl, inr}
 use mathlib.Core.Path.{_≡_, refl, sym, ap, _∙_, subst, subst₂}
 use mathlib.Core.Bool.{Bool, true, false, not, cond, false≢true}
 use native.Mathlib.Omega.{arith}
@@ -13,7 +14,7 @@ use Rattle.step.specs.Steps.{isNear, sameTag, withOld, at, withSlot, withOldVal
 use Rattle.machine.specs.State.{rowAt, recordAt}
 use Rattle.machine.specs.Entry.{withParts, refused, called}
 use Rattle.machine.specs.Frame.{Ready}
-use Rattle.machine.specs.Run.{turnedAway, changes}
+use Rattle.machine.specs.Run.{turnedAway, xChanged}
 use Rattle.machine.proofs.Tests.{and-left, and-right, and-both}
 use Rattle.machine.proofs.Refusals.{refusal-same}
 use Rattle.linear.proofs.Invariant.{slotOf}
@@ -23,12 +24,12 @@ use Rattle.linear.proofs.Moved.{Left, rowLeft, stepFrom, by-entry, aske
 same-tag : (x : Tag) → sameTag x x ≡ true
 same-tag x = and-both _ _ (eq-eqb (x .process .0) (x .process .0) refl) (eq-eqb (x .number .0) (x .number .0) refl)
 
-unchanged : (st st′ : State) → st′ .x ≡ st .x → changes st st′ ≡ false
+unchanged : (st st′ : State) → st′ .x ≡ st .x → xChanged st st′ ≡ false
 unchanged st st′ e = ap not (ap (sameTag (st .x)) e ∙ same-tag (st .x))
 
 -- X becomes [p, next], and next is above every number that X has had for p.
 changed-by : (st st′ : State) (p : ℕ) → recordAt st (st .x .process .0) .next .0 ≡ suc (st .x .number .0)
-    → st′ .x ≡ record { process = record { 0 = p }; number = recordAt st p .next } → changes st st′ ≡ true
+    → st′ .x ≡ record { process = record { 0 = p }; number = recordAt st p .next } → xChanged st st′ ≡ true
 changed-by st st′ p following e = ap (λ (x : Tag). not (sameTag (st .x) x)) e ∙ ap not (go (sameTag (st .x) new) refl)
   where
     new : Tag
@@ -40,6 +41,15 @@ changed-by st st′ p following e = ap (λ (x : Tag). not (sameTag (st .x) x)) e
         let process : st .x .process .0 ≡ p = eqb-true _ _ (and-left (eqb (st .x .process .0) p) (eqb (st .x .number .0) (recordAt st p .next .0)) t) in
         let number : st .x .number .0 ≡ recordAt st p .next .0 = eqb-true _ _ (and-right (eqb (st .x .process .0) p) (eqb (st .x .number .0) (recordAt st p .next .0)) t) in
         absurd (omega (arith, number, subst (λ (q : ℕ). recordAt st q .next .0 ≡ suc (st .x .number .0)) process following))
+
+-- Why an entry of p is turned away: p is not there; or a call is open, a store has no number left, no call is open.
+abbrev pub TurnedAt : State → ℕ → Kind → Outcome → Type 0
+TurnedAt st p (Ask request) o =
+    ((o ≡ CallOpen) × (idle (recordAt st p .place) ≡ false)) ⊎ ((o ≡ UsedUp) × (idle (recordAt st p .place) ≡ true) × ((v : ℕ) × (request ≡ Store v)))
+TurnedAt st p Step o = (o ≡ NoCall) × (idle (recordAt st p .place) ≡ true)
+
+abbrev pub Turned : State → ℕ → Kind → Outcome → Type 0
+Turned st p k o = ((o ≡ NoProcess) × (st .n ≤ p)) ⊎ ((p < st .n) × TurnedAt st p k o)
 
 -- The cases of a process p below N: the requests that are taken, and the steps. A calm one leaves X.
 module _ (G : Kind → State → Outcome → Bool → Type 0) (st : State) (p : ℕ) where
@@ -92,11 +102,11 @@ idle-is Check14 e = absurd (false≢true e)
 
 module _ (G : Kind → State → Outcome → Bool → Type 0) (st : State) (p : Process) (ready : Ready st)
     (following : recordAt st (st .x .process .0) .next .0 ≡ suc (st .x .number .0))
-    (away : (k : Kind) (o : Outcome) → turnedAway o ≡ true → G k st o false) (cases : p .0 < st .n → Cases G st (p .0)) where
+    (away : (k : Kind) (o : Outcome) → turnedAway o ≡ true → Turned st (p .0) k o → G k st o false) (cases : p .0 < st .n → Cases G st (p .0)) where
   abbrev Shown : Kind → Answer → Type 0
-  Shown k a = G k (a .state) (a .outcome) (changes st (a .state))
+  Shown k a = G k (a .state) (a .outcome) (xChanged st (a .state))
 
-  shown : (k : Kind) (a : Answer) (o : Outcome) (b : Bool) → a .outcome ≡ o → changes st (a .state) ≡ b → G k (a .state) o b → Shown k a
+  shown : (k : Kind) (a : Answer) (o : Outcome) (b : Bool) → a .outcome ≡ o → xChanged st (a .state) ≡ b → G k (a .state) o b → Shown k a
   shown k a o b e f g = subst₂ (G k (a .state)) (sym e) (sym f) g
 
   calm : (k : Kind) (a : Answer) (o : Outcome) → a .outcome ≡ o → a .state .x ≡ st .x → G k (a .state) o false → Shown k a
@@ -106,11 +116,11 @@ module _ (G : Kind → State → Outcome → Bool → Type 0) (st : State) (p : 
   after-step = called st p Step .state
 
   -- a refused entry leaves the state
-  turned : (k : Kind) (o : Outcome) → called st p k .outcome ≡ o → turnedAway o ≡ true → Shown k (called st p k)
-  turned k o e t =
+  turned : (k : Kind) (o : Outcome) → called st p k .outcome ≡ o → turnedAway o ≡ true → Turned st (p .0) k o → Shown k (called st p k)
+  turned k o e t why =
       let same : called st p k .state ≡ st = refusal-same st p k (ap turnedAway e ∙ t) in
       shown k (called st p k) o false e (unchanged st (called st p k .state) (ap (λ (s : State). s .x) same))
-      (subst (λ (s : State). G k s o false) (sym same) (away k o t))
+      (subst (λ (s : State). G k s o false) (sym same) (away k o t why))
 
   module _ (l : p .0 < st .n) where
     abbrev own : Record
@@ -129,7 +139,7 @@ module _ (G : Kind → State → Outcome → Bool → Type 0) (st : State) (p : 
 
         by-room : (v : ℕ) (b : Bool) → own .place ≡ Idle → called st p (Ask (Store v)) .state .x ≡ st .x → To (Store v) (cond b (begun own (Store7 v)) (notTaken own UsedUp))
         by-room v true e x o m = calm (Ask (Store v)) (called st p (Ask (Store v))) Taken o x (cases l .asks-store v e (called st p (Ask (Store v)) .state) x m)
-        by-room v false e x o m = turned (Ask (Store v)) UsedUp o refl
+        by-room v false e x o m = turned (Ask (Store v)) UsedUp o refl (inr (l, inr (refl, ap idle e, (v, refl))))
 
         by-kind : (r : Request) → own .place ≡ Idle → called st p (Ask r) .state .x ≡ st .x → To r (whenIdle (st .s) own r)
         by-kind Load e x o m = calm (Ask Load) (called st p (Ask Load)) Taken o x (cases l .asks-load e (called st p (Ask Load) .state) x m)
@@ -138,12 +148,12 @@ module _ (G : Kind → State → Outcome → Bool → Type 0) (st : State) (p : 
 
         by-idle : (b : Bool) → idle (own .place) ≡ b → To request (cond b (whenIdle (st .s) own request) (notTaken own CallOpen))
         by-idle true e o m = by-kind request (idle-is (own .place) e) (left .x) o m
-        by-idle false e o m = turned (Ask request) CallOpen o refl
+        by-idle false e o m = turned (Ask request) CallOpen o refl (inr (l, inl (refl, e)))
 
     step-shown : (place : Place) → own .place ≡ place
         → Left (p .0) st (stepFrom st p place) (rowLeft place (rowAt st (p .0)) (stepFrom st p place)) (called st p Step)
         → Shown Step (called st p Step)
-    step-shown Idle e left = turned Step NoCall (left .outcome) refl
+    step-shown Idle e left = turned Step NoCall (left .outcome) refl (inr (l, (refl, ap idle e)))
     step-shown Load1 e left = calm Step (called st p Step) GoesOn (left .outcome) (left .x) (cases l .step-1 e after-step (left .x) (left .moved))
     step-shown Load2 e left = calm Step (called st p Step) GoesOn (left .outcome) (left .x) (cases l .step-2 e after-step (left .x) (left .moved))
     step-shown (Load3 v) e left = go (isNear (rowAt st (own .kept .process .0) .«old_number») (own .kept .number .0)) refl left
@@ -179,10 +189,10 @@ module _ (G : Kind → State → Outcome → Bool → Type 0) (st : State) (p : 
         go false t o = calm Step (called st p Step) No o (left .x) (cases l .step-14-no e t after-step (left .x) (left .moved))
 
   -- Every entry of p is one of these.
-  pub by-cases : (k : Kind) → G k (called st p k .state) (called st p k .outcome) (changes st (called st p k .state))
+  pub by-cases : (k : Kind) → G k (called st p k .state) (called st p k .outcome) (xChanged st (called st p k .state))
   by-cases k =
       by-entry st p ready Shown
-      (λ j. shown j (refused st NoProcess) NoProcess false refl (unchanged st st refl) (away j NoProcess refl))
+      (λ g j. shown j (refused st NoProcess) NoProcess false refl (unchanged st st refl) (away j NoProcess refl (inl (refl, g))))
       enters
       k
     where

@@ -1,7 +1,7 @@
 -- Demand 3 of every run from a start: whatever N, S, V and the entries are.
 -- Assumes nothing.
 use Prim.Native.Nat.{ℕ, suc, _+_, _≤_}
-use mathlib.Core.Path.{_≡_, sym, ap, _∙_, subst}
+use mathlib.Core.Path.{refl, _≡_, sym, ap, _∙_, subst}
 use mathlib.Core.Bool.{Bool, true, false, cond}
 use mathlib.Core.HLevel.{Π-prop}
 use mathlib.Core.List.{List, [], _∷_, map, Perm·symm}
@@ -11,7 +11,8 @@ use Rattle.numbers.specs.Numbers.{inRange}
 use Rattle.linear.specs.Types.{Sequence, Entry, State}
 use Rattle.machine.specs.State.{firstState}
 use Rattle.machine.specs.Frame.{Ready}
-use Rattle.machine.specs.Run.{Note, played, noteOf, after, notes, changeCount, changes}
+use Rattle.machine.specs.Run.{Note, played, noteOf, after, notes, changeCount, xChanged}
+use Rattle.machine.proofs.Frame.{frame}
 use Rattle.machine.proofs.RunLaws.{ready-start, ready-played}
 use Rattle.bench.specs.Bench.{inLog}
 use Rattle.log.specs.declared.Note as log
@@ -20,40 +21,40 @@ use Rattle.word.specs.Calls.{Reply, Calls, noCalls, goOn, callsFrom, doneCount,
 use Rattle.word.proofs.Lists.{every-map, every-perm}
 use Rattle.word.proofs.Good.{good-first}
 use Rattle.word.proofs.Told.{NotLater, every-mem, done-on}
-use Rattle.linear.specs.Demand3.{stepOfStore, itemOf, itemsOf, callsIn, RightRecords, Demand3}
+use Rattle.linear.specs.Demand3.{stepOfStore, itemOf, itemsOf, callsIn, RightRecord, RightRecords, Demand3}
 use Rattle.linear.specs.Linked.{ChangesDecide, Marks, noMarks, markOn, StoresLinked}
 use Rattle.linear.proofs.Simulated.{Simulated, sim-start, sim-entry}
 use Rattle.linear.proofs.Known.{KnownIn, known-start, known-entry}
 
 -- What holds after the entries es with the notes ws, of which the calls c have become c′ and the marks m some others.
-pub record Ended (v : ℕ) (st : State) (c c′ : Calls ℕ) (m : Marks) (es : List Entry) (ws : List Note) : Type 0 where
+pub record Ended (n v : ℕ) (st : State) (c c′ : Calls ℕ) (m : Marks) (es : List Entry) (ws : List Note) : Type 0 where
   pub marks : Marks
   pub sim : Simulated v st c′ marks
   pub known : KnownIn st c′
-  pub records : RightRecords c es (map inLog ws)
+  pub records : RightRecords n c es (map inLog ws)
   pub decide : ChangesDecide c es ws
   pub linked : StoresLinked c m (itemsOf es (map inLog ws))
   pub changed : doneCount (c′ .played) ≡ doneCount (c .played) + changeCount ws
 
-pub run-on : (v : ℕ) (st : State) (c : Calls ℕ) (m : Marks) (es : List Entry) → Ready st → Simulated v st c m → KnownIn st c
-    → Ended v (after st es) c (callsFrom stepOfStore c (itemsOf es (map inLog (notes st es)))) m es (notes st es)
+pub run-on : (n v : ℕ) (st : State) (c : Calls ℕ) (m : Marks) (es : List Entry) → st .n ≡ n → Ready st → Simulated v st c m → KnownIn st c
+    → Ended n v (after st es) c (callsFrom stepOfStore c (itemsOf es (map inLog (notes st es)))) m es (notes st es)
 unfolding after notes callsFrom changeCount
-run-on v st c m [] ready sim known =
+run-on n v st c m [] size ready sim known =
     record { marks = m; sim = sim; known = known; records = tt; decide = tt; linked = tt; changed = omega arith }
-run-on v st c m (e ∷ es) ready sim known =
+run-on n v st c m (e ∷ es) size ready sim known =
     let gone = known-entry c known ready (sim .sim .inv .following) (e .process) (e .kind) in
     let next = sim-entry c m sim known ready (e .process) (e .kind) in
     let rest =
-    run-on v (played st e .state) (goOn stepOfStore c (itemOf e (inLog (noteOf st e)))) (markOn c m (itemOf e (inLog (noteOf st e)))) es (ready-played st e ready) (next .0) (gone .0) in
+    run-on n v (played st e .state) (goOn stepOfStore c (itemOf e (inLog (noteOf st e)))) (markOn c m (itemOf e (inLog (noteOf st e)))) es (frame st (e .process) (e .kind) .n ∙ size) (ready-played st e ready) (next .0) (gone .0) in
     record {
       marks = rest .marks;
       sim = rest .sim;
       known = rest .known;
-      records = (gone .1, rest .records);
+      records = (subst (λ (k : ℕ). RightRecord k c e (inLog (noteOf st e))) size (gone .1), rest .records);
       decide = (gone .2, rest .decide);
       linked = (next .1, rest .linked);
       changed =
-          add (changes st (played st e .state)) _ _ _
+          add (xChanged st (played st e .state)) _ _ _
           (done-on stepOfStore c (itemOf e (inLog (noteOf st e))) ∙ ap (λ (b : Bool). cond b (suc d) d) (sym (gone .2))) (rest .changed);
     }
   where
@@ -73,8 +74,8 @@ answered-late replies played =
     played
 
 module _ (n : ℕ) (s : Sequence) (v : ℕ) (range : inRange n s ≡ true) (es : List Entry) where
-  pub ended : Ended v (after (firstState n s v) es) noCalls (callsIn es (map inLog (notes (firstState n s v) es))) noMarks es (notes (firstState n s v) es)
-  ended = run-on v (firstState n s v) noCalls noMarks es (ready-start n s v range) (sim-start n s v range) (known-start n s v range)
+  pub ended : Ended n v (after (firstState n s v) es) noCalls (callsIn es (map inLog (notes (firstState n s v) es))) noMarks es (notes (firstState n s v) es)
+  ended = run-on n v (firstState n s v) noCalls noMarks es refl (ready-start n s v range) (sim-start n s v range) (known-start n s v range)
 
   abbrev ws : List log.Note
   ws = map inLog (notes (firstState n s v) es)
@@ -95,7 +96,7 @@ module _ (n : ℕ) (s : Sequence) (v : ℕ) (range : inRange n s ≡ true) (es :
       }
 
   -- demand 3, with the count of changes that the head is given
-  pub demand-3 : Demand3 v (changeCount (notes (firstState n s v) es)) es (map inLog (notes (firstState n s v) es))
+  pub demand-3 : Demand3 n v (changeCount (notes (firstState n s v) es)) es (map inLog (notes (firstState n s v) es))
   demand-3 = record { oneOrder = one-order; records = ended .records; changesCounted = omega (arith, ended .changed) }
 
   -- X changes exactly where a store's second own step goes on

@@ -1,6 +1,7 @@
 -- Demand 3 for every run of the machine. Which file says what, bottom up; the facts on the machine (to Cases) and the theorems on the
 -- word (crate word) meet only in Side, Join and Simulated.
 --     Agree         the definitions of the calls at document 01's runs
+--     Silly         logs that have to fall
 --     Lift          old numbers as natural numbers; the only place that opens step 3's test (guard-low, guard-high)
 --     History       the changes so far and their places (At, Sorted)
 --     View          the machine as the invariants see it (View, viewOf, Moved)
@@ -34,6 +35,7 @@ pub mod Moved
 pub mod Noted
 pub mod OfFile
 pub mod Side
+pub mod Silly
 pub mod Simulated
 pub mod Start
 pub mod Values

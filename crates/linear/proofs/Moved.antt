@@ -1,12 +1,12 @@
 -- What an entry leaves of a state, as far as the invariants speak of it: X, and the row and the record of its process; all else stays.
 -- From here on the states themselves are not looked into.
 -- Assumes nothing.
-use Prim.Native.Nat.{ℕ, _<_}
+use Prim.Native.Nat.{ℕ, _≤_, _<_}
 use mathlib.Core.Path.{_≡_, refl, ap, _∙_}
 use mathlib.Core.Bool.{Bool, true, false, cond}
 use native.Mathlib.Omega.{arith}
 use lib.Dec.{leb, ltb}
-use borrow.Author.Tests.{lt-ltb, ltb-true, le-leb}
+use borrow.Author.Tests.{lt-ltb, ltb-true, ltb-false, le-leb}
 use Rattle.linear.specs.Types.{Process, Row, Kind, Ask, Step, Request, Place, Idle, Load1, Load2, Load3, Load5, Store7, Store8, Store9, Store10, Check14, Stepped, NoProcess, State, Answer}
 use Rattle.numbers.proofs.Range.{range-of}
 use Rattle.step.specs.Steps.{isNear, sameTag, stepAt, stepOf, reachedAt, largestNext, requestOf}
@@ -50,7 +50,7 @@ stepFrom st p place =
 module _ (st : State) (p : Process) (ready : Ready st) where
   -- Process not below N: 11. Otherwise a request or a step of its own.
   pub by-entry : (P : Kind → Answer → Type 0)
-      → ((k : Kind) → P k (refused st NoProcess)) → (p .0 < st .n → (k : Kind) → P k (called st p k))
+      → (st .n ≤ p .0 → (k : Kind) → P k (refused st NoProcess)) → (p .0 < st .n → (k : Kind) → P k (called st p k))
       → (k : Kind) → P k (called st p k)
   unfolding called
   by-entry P away enters k = rw (ready .tested) (inner (ltb (p .0) (st .n)) refl)
@@ -60,7 +60,7 @@ module _ (st : State) (p : Process) (ready : Ready st) where
 
       inner : (b : Bool) → ltb (p .0) (st .n) ≡ b → P k (cond b (entered st p k) (refused st NoProcess))
       inner true e = enters′ (ltb-true (p .0) (st .n) e)
-      inner false e = away k
+      inner false e = away (ltb-false (p .0) (st .n) e) k
 
   module _ (l : p .0 < st .n) where
     sixteen : p .0 < 16

@@ -5,7 +5,8 @@ use mathlib.Core.Path.{_≡_, refl, sym, ap, _∙_, subst₂}
 use mathlib.Core.Bool.{false}
 use mathlib.Core.List.{List, [], _∷_, _++_, map, append-assoc}
 use native.Mathlib.Omega.{arith}
-use lib.ListN.{length, getD, drop, length-map}
+use lib.ListN.{take, length-append, length, getD, drop, length-map}
+use lib.Seq.{take-at}
 use borrow.Author.Tests.{le-leb}
 use Rattle.machine.specs.Run.{Note, notes, changeCount}
 use Rattle.machine.specs.State.{firstState}
@@ -16,6 +17,7 @@ use Rattle.linear.specs.Types.{Accepted, Head}
 use Rattle.schedule.proofs.Accepted.{accepted-answer}
 use Rattle.log.specs.Log.{headOf, recordsOf, logOf, logLength, headIn, notesIn}
 use Rattle.log.specs.declared.Note as log
+use Rattle.log.proofs.Laws.{head-length, log-length}
 use Rattle.log.proofs.Back.{head-in, notes-back}
 use Rattle.bench.specs.Bench.{inLog, notesOf, logAfter}
 use Rattle.bench.proofs.WholeRun.{range, start-is, entry-count, few-entries}
@@ -50,6 +52,13 @@ module _ (f : List ℕ) (bytes : Every (λ b. b < 256) f) (n s v c : ℕ) (is : 
       rw (is, le-leb (logLength c) (length lent) room, start-is f n s v c is, records-long)
       (sym (append-assoc (headOf (length ws) (changeCount ws) n) (recordsOf (map inLog ws)) rest))
 
+  -- its first twelve bytes
+  front-is : take 12 (logOf (changeCount ws) n (map inLog ws) ++ rest) ≡ headOf c (changeCount ws) n
+  unfolding logOf
+  front-is =
+      rw (append-assoc (headOf (length (map inLog ws)) (changeCount ws) n) (recordsOf (map inLog ws)) rest, records-long, as-many)
+      (take-at (headOf c (changeCount ws) n) _ 12 (head-length c (changeCount ws) n))
+
   few : length (map inLog ws) < 2 ^ 32
   few = omega (arith, records-long, as-many, few-entries f n s v c is)
 
@@ -74,10 +83,10 @@ module _ (f : List ℕ) (bytes : Every (λ b. b < 256) f) (n s v c : ℕ) (is : 
   of-file : LogOfFile n v c f (logAfter f lent)
   of-file =
       record {
-        entries = ap (λ (h : Head). h .entries) head-is ∙ records-long ∙ as-many;
-        processes = ap (λ (h : Head). h .n) head-is;
+        head = rw (head-is, log-is, front-is);
+        long = rw (log-is, length-append, log-length (changeCount ws) n (map inLog ws), records-long, as-many) (omega arith);
         calls =
-            subst₂ (λ (k : ℕ) (ws : List log.Note). Demand3 v k (fileEntries f) ws) (sym (ap (λ (h : Head). h .changes) head-is)) (sym notes-are)
+            subst₂ (λ (k : ℕ) (ws : List log.Note). Demand3 n v k (fileEntries f) ws) (sym (ap (λ (h : Head). h .changes) head-is)) (sym notes-are)
             (demand-3 n (record { 0 = s }) v (range f n s v c is) (fileEntries f));
       }
 

@@ -18,7 +18,7 @@ use Rattle.step.specs.Steps.{sameTag, at, withSlot}
 use Rattle.machine.specs.State.{rowAt, recordAt, firstState}
 use Rattle.machine.specs.Entry.{called}
 use Rattle.machine.specs.Frame.{Ready}
-use Rattle.machine.specs.Run.{turnedAway, changes}
+use Rattle.machine.specs.Run.{turnedAway, xChanged}
 use Rattle.machine.proofs.Soundness.{sure}
 use Rattle.word.specs.Word.{none, Op, load, store, check, Answer, value, done, notDone, saysYes, saysNo, put, linked}
 use Rattle.word.specs.Word as word
@@ -38,7 +38,7 @@ use Rattle.linear.proofs.Kept.{one-at, seen-at, kept-calm, kept-1, kept
 use Rattle.linear.proofs.Start.{idle-start, firstChange, inv-start}
 use Rattle.linear.proofs.Side.{LinkOk, LateFor, Side, SideAt, Sim, way-same, undecided-on, loading-on}
 use Rattle.linear.proofs.Join.{sim-tick, side-at, sim-quiet, sim-still, sim-request, sim-load, agree, sim-append, sim-done}
-use Rattle.linear.proofs.Cases.{Cases, by-cases}
+use Rattle.linear.proofs.Cases.{Turned, Cases, by-cases}
 use Rattle.linear.proofs.Noted.{noteWith, came, item-away}
 use Rattle.linear.proofs.Known.{KnownIn, known-at, decides-at, load-stores}
 
@@ -97,8 +97,8 @@ module _ {v : ℕ} {st : State} (c : Calls ℕ) (m : Marks) (simulated : Simulat
   abbrev s : Sim v (viewOf st) (c .now) (c .asked) (c .op) (c .played) (m .latest) (m .changes)
   s = simulated .sim
 
-  away-next : (k : Kind) (o : Outcome) → turnedAway o ≡ true → Next k st o false
-  away-next k o e =
+  away-next : (k : Kind) (o : Outcome) → turnedAway o ≡ true → Turned st (p .0) k o → Next k st o false
+  away-next k o e why =
       subst (λ (i : Item ℕ). Simulated v st (goOn stepOfStore c i) (markOn c m i) × LinkedAt c m i) (sym (item-away (p .0) k (noteWith st p k o) e))
       (record { sim = sim-tick s; one = simulated .one }, tt)
 
@@ -307,5 +307,5 @@ module _ {v : ℕ} {st : State} (c : Calls ℕ) (m : Marks) (simulated : Simulat
         tested {b} t = ap (linked (m .latest (p .0))) (sym (s .count)) ∙ sym (tag-test (s .inv) (p .0) l) ∙ t
 
   -- Every entry carries the relation on.
-  pub sim-entry : (k : Kind) → Next k (called st p k .state) (called st p k .outcome) (changes st (called st p k .state))
+  pub sim-entry : (k : Kind) → Next k (called st p k .state) (called st p k .outcome) (xChanged st (called st p k .state))
   sim-entry k = by-cases Next st p ready (s .inv .following) away-next cases k

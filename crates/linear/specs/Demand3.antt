@@ -3,16 +3,16 @@
 -- Assumes nothing.
 use Prim.Native.Nat.{ℕ, suc, _-_, _≤_, _<_}
 use mathlib.Core.Path.{_≡_}
-use mathlib.Core.Bool.{true, cond}
+use mathlib.Core.Bool.{Bool, true, false, cond}
 use mathlib.Core.Logic.{_⊎_}
 use mathlib.Core.List.{List, [], _∷_}
 use lib.Dec.{eqb}
-use lib.ListN.{getD, length}
+use lib.ListN.{take, getD, length}
 use Rattle.linear.specs.Types.{Entry, Kind, Ask, Step, Request, Load, Store, Check, Note, Accepted}
 use Rattle.word.specs.Word.{Op, load, store, check, Answer, value, done, notDone, saysYes, saysNo, Every}
 use Rattle.word.specs.Calls.{Item, asks, goes, answers, away, Calls, isStore, noCalls, goOn, callsFrom, doneCount, OneOrder}
 use Rattle.schedule.specs.File.{reading, fileEntries}
-use Rattle.log.specs.Log.{logLength, headIn, notesIn}
+use Rattle.log.specs.Log.{headOf, logLength, headIn, notesIn}
 use Rattle.bench.specs.Bench.{logAfter}
 
 -- a store is decided by step 8, its second own step
@@ -24,8 +24,9 @@ opOf Load = load
 opOf (Store v) = store v
 opOf Check = check
 
--- What came of an entry of p, by the number of its outcome: "0 request taken; 1 step taken, call goes on; 2 LL answered; 3 SC done; 4 SC
--- not done; 5 VL yes; 6 VL no. A refused entry's outcome is its number below." There is one word, word 0.
+-- What came of an entry of p, by the number of its outcome: "0 request taken; 1 step taken, call goes on; 2 LL answered; 3 SC done; 4 SC not
+-- done; 5 VL yes; 6 VL no. A refused entry's outcome is its number below." A step is never "taken as a request": 0 is none of its
+-- outcomes. There is one word, word 0.
 abbrev pub stepItems : ℕ → ℕ → List (Item ℕ)
 stepItems p v = away ∷ goes p ∷ answers p (value v) ∷ answers p done ∷ answers p notDone ∷ answers p saysYes ∷ answers p saysNo ∷ []
 
@@ -86,40 +87,49 @@ MayAnswer o notDone k = (isStore o ≡ true) × (k ≡ 2)
 MayAnswer o saysYes k = (o ≡ check) × (k ≡ 1)
 MayAnswer o saysNo k = (o ≡ check) × (k ≡ 1)
 
-abbrev pub InTurn : Calls ℕ → Item ℕ → Type 0
-InTurn c (asks p w o) = Unit {0}
-InTurn c (goes p) = MayGoOn (c .op p) (suc (c .steps p))
-InTurn c (answers p a) = MayAnswer (c .op p) a (suc (c .steps p))
-InTurn c away = Unit {0}
+-- "12 and 13 for a request, or 14 for a step": whether a call is open, what is asked, and the number. (That 13 is due exactly where the
+-- next number is above S is about sequence numbers, which no log shows; demand 2 says it.)
+abbrev pub MayRefuse : Bool → Kind → ℕ → Type 0
+MayRefuse opened (Ask request) o = ((o ≡ 12) × (opened ≡ true)) ⊎ ((o ≡ 13) × (opened ≡ false) × (isStore (opOf request) ≡ true))
+MayRefuse opened Step o = (o ≡ 14) × (opened ≡ false)
+
+-- What may come of an entry e with outcome o among n processes: a process that is not there gets 11, "process not below N", and nothing
+-- else; a request is taken where no call is open, and a step goes on with an open call or answers it.
+abbrev pub Allowed : ℕ → Calls ℕ → Entry → ℕ → Item ℕ → Type 0
+Allowed n c e o (asks p w op) = (p < n) × (c .opened p ≡ false)
+Allowed n c e o (goes p) = (p < n) × (c .opened p ≡ true) × MayGoOn (c .op p) (suc (c .steps p))
+Allowed n c e o (answers p a) = (p < n) × (c .opened p ≡ true) × MayAnswer (c .op p) a (suc (c .steps p))
+Allowed n c e o away = ((o ≡ 11) × (n ≤ e .process .0)) ⊎ ((e .process .0 < n) × MayRefuse (c .opened (e .process .0)) (e .kind) o)
 
 -- What a record says of its entry, c being the calls before it.
-pub record RightRecord (c : Calls ℕ) (e : Entry) (w : Note) : Type 0 where
+pub record RightRecord (n : ℕ) (c : Calls ℕ) (e : Entry) (w : Note) : Type 0 where
   pub process : w .process ≡ e .process .0
   pub steps : w .steps ≡ counted c (itemOf e w) .steps
   pub mark : w .mark ≡ counted c (itemOf e w) .mark
   pub value : w .value ≡ counted c (itemOf e w) .value
-  pub inTurn : InTurn c (itemOf e w)
+  pub allowed : Allowed n c e (w .outcome) (itemOf e w)
 
 -- There are as many records as entries, and each is right.
-abbrev pub RightRecords : Calls ℕ → List Entry → List Note → Type 0
-RightRecords c [] [] = Unit {0}
-RightRecords c [] (w ∷ ws) = ⊥
-RightRecords c (e ∷ es) [] = ⊥
-RightRecords c (e ∷ es) (w ∷ ws) = RightRecord c e w × RightRecords (goOn stepOfStore c (itemOf e w)) es ws
+abbrev pub RightRecords : ℕ → Calls ℕ → List Entry → List Note → Type 0
+RightRecords n c [] [] = Unit {0}
+RightRecords n c [] (w ∷ ws) = ⊥
+RightRecords n c (e ∷ es) [] = ⊥
+RightRecords n c (e ∷ es) (w ∷ ws) = RightRecord n c e w × RightRecords n (goOn stepOfStore c (itemOf e w)) es ws
 
--- The records ws of the entries es, from first value v, with the head's count of changes.
-pub record Demand3 (v changes : ℕ) (es : List Entry) (ws : List Note) : Type 0 where
+-- The records ws of the entries es, of n processes and from first value v, with the head's count of changes.
+pub record Demand3 (n v changes : ℕ) (es : List Entry) (ws : List Note) : Type 0 where
   pub oneOrder : OneOrder v (callsIn es ws)
-  pub records : RightRecords noCalls es ws
+  pub records : RightRecords n noCalls es ws
   -- "how often X has changed": the stores that were decided as done, answered or not
   pub changesCounted : changes ≡ doneCount (callsIn es ws .played)
 
--- What people hold in their hands: a file of N n and first value v with c entries, and the log of its run. The log's head says c and n;
--- its records, read back from its bytes, are those of the file's entries; and they and the head's count of changes meet demand 3.
+-- What people hold in their hands: a file of N n and first value v with c entries, and the log of its run. The log's first twelve bytes are
+-- a head of c entries, its changes and n; its records, read back from its bytes, are those of the file's entries; and they and the head's
+-- count of changes meet demand 3.
 pub record LogOfFile (n v c : ℕ) (file log : List ℕ) : Type 0 where
-  pub entries : headIn log .entries ≡ c
-  pub processes : headIn log .n ≡ n
-  pub calls : Demand3 v (headIn log .changes) (fileEntries file) (notesIn log)
+  pub head : take 12 log ≡ headOf c (headIn log .changes) n
+  pub long : logLength c ≤ length log
+  pub calls : Demand3 n v (headIn log .changes) (fileEntries file) (notesIn log)
 
 -- "The answered calls of every accepted file": for every list of bytes that the reader accepts, and every lent log that is long enough,
 -- whatever it held.

@@ -11,19 +11,19 @@ use Rattle.step.specs.Steps.{isNear, sameTag, at, goesOn, answered, stepAt, ste
 use Rattle.machine.specs.State.{sound, rowAt, recordAt}
 use Rattle.machine.specs.Entry.{refused, entered, called}
 use Rattle.machine.specs.Run.{stepsBy, noteOf}
-use Rattle.machine.specs.Numbers.{Numbers, numbers, plain, ofRequest, ofStep, ofKind, numbersOf, numbersIn}
+use Rattle.machine.specs.Numbers.{Numbers, numbers, noSteps, ofRequest, ofStep, ofKind, numbersOf, numbersIn}
 use Rattle.machine.proofs.Soundness.{sound-of}
 
 -- what the log says of an outcome, by the place before the entry
-abbrev said : Place → Kind → Outcome → Numbers
-said place kind o = numbers (toldOf o .number) (stepsBy place kind o) (toldOf o .mark) (toldOf o .value)
+abbrev logged : Place → Kind → Outcome → Numbers
+logged place kind o = numbers (toldOf o .number) (stepsBy place kind o) (toldOf o .mark) (toldOf o .value)
 
 -- an entry that is not looked at further
-absent : (place : Place) (kind : Kind) → said place kind NoProcess ≡ plain 11
+absent : (place : Place) (kind : Kind) → logged place kind NoProcess ≡ noSteps 11
 absent place (Ask request) = refl
 absent place Step = refl
 
-unsound : (place : Place) (kind : Kind) → said place kind Unsound ≡ plain 15
+unsound : (place : Place) (kind : Kind) → logged place kind Unsound ≡ noSteps 15
 unsound place (Ask request) = refl
 unsound place Step = refl
 
@@ -32,25 +32,25 @@ module _ (st : State) (p : Process) where
   own = recordAt st (p .0)
 
   request-numbers : (request : Request)
-      → said (recordAt st (p .0) .place) (Ask request) (requestOf (st .s) (recordAt st (p .0)) request .outcome) ≡ ofKind st p (Ask request)
+      → logged (recordAt st (p .0) .place) (Ask request) (requestOf (st .s) (recordAt st (p .0)) request .outcome) ≡ ofKind st p (Ask request)
   unfolding requestOf
   request-numbers request = by-idle (idle (own .place))
     where
-      by-room : (v : ℕ) (b : Bool) → said (own .place) (Ask (Store v)) (cond b (begun own (Store7 v)) (notTaken own UsedUp) .outcome) ≡ cond b (plain 0) (plain 13)
+      by-room : (v : ℕ) (b : Bool) → logged (own .place) (Ask (Store v)) (cond b (begun own (Store7 v)) (notTaken own UsedUp) .outcome) ≡ cond b (noSteps 0) (noSteps 13)
       by-room v true = refl
       by-room v false = refl
 
-      by-request : (r : Request) → said (own .place) (Ask r) (whenIdle (st .s) own r .outcome) ≡ ofRequest st p r
+      by-request : (r : Request) → logged (own .place) (Ask r) (whenIdle (st .s) own r .outcome) ≡ ofRequest st p r
       by-request Load = refl
       by-request (Store v) = by-room v (leb (own .next .0) (st .s .0))
       by-request Check = refl
 
-      by-idle : (b : Bool) → said (own .place) (Ask request) (cond b (whenIdle (st .s) own request) (notTaken own CallOpen) .outcome) ≡ cond b (ofRequest st p request) (plain 12)
+      by-idle : (b : Bool) → logged (own .place) (Ask request) (cond b (whenIdle (st .s) own request) (notTaken own CallOpen) .outcome) ≡ cond b (ofRequest st p request) (noSteps 12)
       by-idle true = by-request request
       by-idle false = refl
 
   step-numbers : (place : Place)
-      → said place Step (stepAt p (st .x) (recordAt st (p .0)) (rowAt st (reachedAt p (recordAt st (p .0) .kept) place .0)) place .outcome)
+      → logged place Step (stepAt p (st .x) (recordAt st (p .0)) (rowAt st (reachedAt p (recordAt st (p .0) .kept) place .0)) place .outcome)
       ≡ ofStep st (recordAt st (p .0)) (rowAt st (recordAt st (p .0) .kept .process .0)) place
   step-numbers Idle = refl
   step-numbers Load1 = refl
@@ -58,7 +58,7 @@ module _ (st : State) (p : Process) where
   step-numbers (Load3 v) = go (isNear (rowAt st (own .kept .process .0) .«old_number») (own .kept .number .0))
     where
       go : (b : Bool)
-          → said (Load3 v) Step (cond b (answered (st .x) own (rowAt st (own .kept .process .0)) (Current v)) (goesOn (st .x) (at own Load5) (rowAt st (own .kept .process .0))) .outcome)
+          → logged (Load3 v) Step (cond b (answered (st .x) own (rowAt st (own .kept .process .0)) (Current v)) (goesOn (st .x) (at own Load5) (rowAt st (own .kept .process .0))) .outcome)
           ≡ cond b (numbers 2 3 1 v) (numbers 1 3 0 0)
       go true = refl
       go false = refl
@@ -67,7 +67,7 @@ module _ (st : State) (p : Process) where
   step-numbers Store8 = go (sameTag (st .x) (own .kept))
     where
       go : (b : Bool)
-          → said Store8 Step
+          → logged Store8 Step
           (cond b
           (goesOn (record { process = p; number = own .next }) (record { kept = own .kept; next = record { 0 = own .next .0 + 1 }; place = Store9 }) (rowAt st (p .0)))
           (answered (st .x) own (rowAt st (p .0)) NotDone) .outcome)
@@ -78,11 +78,11 @@ module _ (st : State) (p : Process) where
   step-numbers Store10 = refl
   step-numbers Check14 = go (sameTag (st .x) (own .kept))
     where
-      go : (b : Bool) → said Check14 Step (cond b Yes No) ≡ cond b (numbers 5 1 0 0) (numbers 6 1 0 0)
+      go : (b : Bool) → logged Check14 Step (cond b Yes No) ≡ cond b (numbers 5 1 0 0) (numbers 6 1 0 0)
       go true = refl
       go false = refl
 
-  kind-numbers : (kind : Kind) → recordAt st (p .0) .next .0 ≤ largestNext → said (recordAt st (p .0) .place) kind (entered st p kind .outcome) ≡ ofKind st p kind
+  kind-numbers : (kind : Kind) → recordAt st (p .0) .next .0 ≤ largestNext → logged (recordAt st (p .0) .place) kind (entered st p kind .outcome) ≡ ofKind st p kind
   unfolding entered stepOf
   kind-numbers (Ask request) l = request-numbers request
   kind-numbers Step l = rw (le-leb (own .next .0) largestNext l) (step-numbers (own .place))
@@ -95,7 +95,7 @@ numbers-in-order st p kind = outer (sound st) refl
     place = recordAt st (p .0) .place
 
     inner : (b : Bool) → ltb (p .0) (st .n) ≡ b → sound st ≡ true
-        → said (recordAt st (p .0) .place) kind (cond b (entered st p kind) (refused st NoProcess) .outcome) ≡ cond b (ofKind st p kind) (plain 11)
+        → logged (recordAt st (p .0) .place) kind (cond b (entered st p kind) (refused st NoProcess) .outcome) ≡ cond b (ofKind st p kind) (noSteps 11)
     inner true t e =
         let sure = sound-of st e in
         let high = sure .each (p .0) (ltb-true _ _ t) .high in
@@ -104,7 +104,7 @@ numbers-in-order st p kind = outer (sound st) refl
     inner false t e = absent (recordAt st (p .0) .place) kind
 
     outer : (b : Bool) → sound st ≡ b
-        → said (recordAt st (p .0) .place) kind (cond b (cond (ltb (p .0) (st .n)) (entered st p kind) (refused st NoProcess)) (refused st Unsound) .outcome)
-        ≡ cond b (cond (ltb (p .0) (st .n)) (ofKind st p kind) (plain 11)) (plain 15)
+        → logged (recordAt st (p .0) .place) kind (cond b (cond (ltb (p .0) (st .n)) (entered st p kind) (refused st NoProcess)) (refused st Unsound) .outcome)
+        ≡ cond b (cond (ltb (p .0) (st .n)) (ofKind st p kind) (noSteps 11)) (noSteps 15)
     outer true e = inner (ltb (p .0) (st .n)) refl e
     outer false e = unsound (recordAt st (p .0) .place) kind

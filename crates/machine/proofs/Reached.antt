@@ -1,6 +1,6 @@
 -- Demand 2's "reaches one shared register", over the whole machine: a step of p is on one register of one process, step 9 on two of p's
 -- own; no other register changes, and none matters.
-use Prim.Native.Nat.{ℕ, _≤_, _<_}
+use Prim.Native.Nat.{_%_, ℕ, _≤_, _<_}
 use mathlib.Core.Path.{_≡_, refl, sym, ap, subst, subst₂, _∙_}
 use mathlib.Core.Logic.{_≢_, ⊎-elim}
 use mathlib.Core.Bool.{Bool, true, false, cond}
@@ -19,24 +19,27 @@ use Rattle.step.proofs.Reach.{SameParts}
 use Rattle.machine.specs.State.{rowAt, recordAt}
 use Rattle.machine.specs.Entry.{withEntry, answerWith, refused, entered, called}
 use Rattle.machine.specs.Frame.{Full, Ready}
-use Rattle.machine.specs.Registers.{Register, theX, slotOf, oldValueOf, oldNumberOf, holds, reachedAt, stepIsOn, AgreeOn, SameStep}
+use Rattle.machine.specs.Registers.{Register, theX, slotOf, oldValueOf, oldNumberOf, holds, registersAt, stepIsOn, AgreeOn, SameStep}
 use Rattle.machine.proofs.Soundness.{Sound, sure, sound-of, row-below}
 use Rattle.machine.proofs.Writers.{row-same, row-other, record-same}
 use Rattle.machine.proofs.Frame.{by-call}
 use Rattle.machine.proofs.RunLaws.{played-ready}
 
--- One register but at step 9, and there two of p's own.
-pub one-register : (p : ℕ) (own : Record) (place : Place) → place ≢ Store9 → length (reachedAt p own place) ≤ 1
-one-register p own Idle ne = omega arith
-one-register p own Load1 ne = omega arith
-one-register p own Load2 ne = omega arith
-one-register p own (Load3 v) ne = omega arith
-one-register p own Load5 ne = omega arith
-one-register p own (Store7 v) ne = omega arith
-one-register p own Store8 ne = omega arith
-one-register p own Store9 ne = absurd (ne refl)
-one-register p own Store10 ne = omega arith
-one-register p own Check14 ne = omega arith
+-- A step is on one register; step 9 on two, both p's own; an idle process is on none.
+pub one-register : (p : ℕ) (own : Record) (place : Place) → place ≢ Idle → place ≢ Store9 → length (registersAt p own place) ≡ 1
+one-register p own Idle busy ne = absurd (busy refl)
+one-register p own Load1 busy ne = refl
+one-register p own Load2 busy ne = refl
+one-register p own (Load3 v) busy ne = refl
+one-register p own Load5 busy ne = refl
+one-register p own (Store7 v) busy ne = refl
+one-register p own Store8 busy ne = refl
+one-register p own Store9 busy ne = absurd (ne refl)
+one-register p own Store10 busy ne = refl
+one-register p own Check14 busy ne = refl
+
+pub two-own-registers : (p : ℕ) (own : Record) → registersAt p own Store9 ≡ slotOf p (own .next .0 % 2) ∷ oldValueOf p ∷ []
+two-own-registers p own = refl
 
 -- the machine's name of a register of X and q's row
 abbrev name : ℕ → parts.Register → Register
@@ -45,7 +48,7 @@ name q (parts.theSlot i) = slotOf q i
 name q parts.theOldValue = oldValueOf q
 name q parts.theOldNumber = oldNumberOf q
 
-named : (p : Process) (own : Record) (place : Place) → reachedAt (p .0) own place ≡ map (name (step.reachedAt p (own .kept) place .0)) (parts.reachesAt own place)
+named : (p : Process) (own : Record) (place : Place) → registersAt (p .0) own place ≡ map (name (step.reachedAt p (own .kept) place .0)) (parts.reachesAt own place)
 named p own Idle = refl
 named p own Load1 = refl
 named p own Load2 = refl

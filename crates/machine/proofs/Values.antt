@@ -57,11 +57,11 @@ record Small (B : ℕ) (st : State) : Type 0 where
 record SmallParts (B : ℕ) (m : Stepped) : Type 0 where
   row : SmallRow B (m .row)
   place : SmallPlace B (m .own .place)
-  said : toldOf (m .outcome) .value < B
+  shown : toldOf (m .outcome) .value < B
 
 record SmallAnswer (B : ℕ) (a : Answer) : Type 0 where
   state : Small B (a .state)
-  said : toldOf (a .outcome) .value < B
+  shown : toldOf (a .outcome) .value < B
 
 -- what holds of both results of a test holds of its result
 either : {A : Type 0} (P : A → Type 0) (b : Bool) {m m′ : A} → P m → P m′ → P (cond b m m′)
@@ -80,7 +80,7 @@ module _ (B : ℕ) (some : 0 < B) (s : Sequence) (p : Process) (x : Tag) (own : 
   -- the row handed back as it was
   same : {x′ : Tag} {own′ : Record} {outcome : Outcome} → SmallPlace B (own′ .place) → toldOf outcome .value < B
       → SmallParts B (record { x = x′; own = own′; row = row; outcome = outcome })
-  same place said = record { row = small; place = place; said = said }
+  same place shown = record { row = small; place = place; shown = shown }
 
   -- A step leaves small values where it was given such ..
   step-small : (place : Place) → SmallPlace B place → SmallParts B (stepAt p x own row place)
@@ -89,10 +89,10 @@ module _ (B : ℕ) (some : 0 < B) (s : Sequence) (p : Process) (x : Tag) (own : 
   step-small Load2 h = same (small .slots _) some
   step-small (Load3 v) h = either (SmallParts B) (isNear (row .«old_number») (own .kept .number .0)) (same tt h) (same tt some)
   step-small Load5 h = same tt (small .old)
-  step-small (Store7 v) h = record { row = record { slots = slot-by B (row .slots) _ v h (small .slots); old = small .old }; place = tt; said = some }
+  step-small (Store7 v) h = record { row = record { slots = slot-by B (row .slots) _ v h (small .slots); old = small .old }; place = tt; shown = some }
   step-small Store8 h = either (SmallParts B) (sameTag x (own .kept)) (same tt some) (same tt some)
-  step-small Store9 h = record { row = record { slots = small .slots; old = small .slots _ }; place = tt; said = some }
-  step-small Store10 h = record { row = record { slots = small .slots; old = small .old }; place = tt; said = some }
+  step-small Store9 h = record { row = record { slots = small .slots; old = small .slots _ }; place = tt; shown = some }
+  step-small Store10 h = record { row = record { slots = small .slots; old = small .old }; place = tt; shown = some }
   step-small Check14 h = same tt (either (λ o. toldOf o .value < B) (sameTag x (own .kept)) some some)
 
   -- a request's record and outcome with what it does not reach
@@ -141,7 +141,7 @@ module _ (B : ℕ) (some : 0 < B) where
           row = λ j. row-by st p q m (SmallRow B) (parts .row) j (h .row j) (omega (arith, few, ready .full .rows));
           place = λ j. record-by st p q m (λ own. SmallPlace B (own .place)) (parts .place) j (h .place j) (omega (arith, few, ready .full .records));
         };
-        said = parts .said;
+        shown = parts .shown;
       }
 
   played-small : (st : State) (e : Entry) → Ready st → SmallKind B (e .kind) → Small B st → SmallAnswer B (played st e)
@@ -149,14 +149,14 @@ module _ (B : ℕ) (some : 0 < B) where
     where
       go : (b : Bool) → ltb (e .process .0) (st .n) ≡ b → SmallAnswer B (cond b (entered st (e .process) (e .kind)) (refused st NoProcess))
       go true t = entered-small st (e .process) (e .kind) ready (ltb-true _ _ t) brings h
-      go false t = record { state = h; said = some }
+      go false t = record { state = h; shown = some }
 
   -- A run goes on from state to state, each small.
   notes-small : (st : State) (es : List Entry) → Ready st → Small B st → SmallEntries B es
       → (i : ℕ) (none : Note) → i < length (notes st es) → getD (notes st es) i none .value < B
   unfolding notes
   notes-small st [] ready h brings i none l = absurd (omega arith)
-  notes-small st (e ∷ es) ready h brings zero none l = played-small st e ready (brings .0) h .said
+  notes-small st (e ∷ es) ready h brings zero none l = played-small st e ready (brings .0) h .shown
   notes-small st (e ∷ es) ready h brings (suc i) none l =
       notes-small (played st e .state) es (ready-played st e ready) (played-small st e ready (brings .0) h .state) (brings .1) i none (omega arith)
 

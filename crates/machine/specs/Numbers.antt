@@ -19,19 +19,19 @@ abbrev pub numbers : ℕ → ℕ → ℕ → ℕ → Numbers
 numbers outcome steps mark value = record { outcome = outcome; steps = steps; mark = mark; value = value }
 
 -- a request, a refusal: no steps
-abbrev pub plain : ℕ → Numbers
-plain outcome = numbers outcome 0 0 0
+abbrev pub noSteps : ℕ → Numbers
+noSteps outcome = numbers outcome 0 0 0
 
 -- "0 request taken"; 13: "SC request when the next number is above S"
 abbrev pub ofRequest : State → Process → Request → Numbers
-ofRequest st p Load = plain 0
-ofRequest st p (Store v) = cond (leb (recordAt st (p .0) .next .0) (st .s .0)) (plain 0) (plain 13)
-ofRequest st p Check = plain 0
+ofRequest st p Load = noSteps 0
+ofRequest st p (Store v) = cond (leb (recordAt st (p .0) .next .0) (st .s .0)) (noSteps 0) (noSteps 13)
+ofRequest st p Check = noSteps 0
 
 -- "1 step taken, call goes on; 2 LL answered; 3 SC done; 4 SC not done; 5 VL yes; 6 VL no"; 14: "step of an idle process". [q, k] is the
 -- kept tag, and q's row is given.
 abbrev pub ofStep : State → Record → Row → Place → Numbers
-ofStep st own row Idle = plain 14
+ofStep st own row Idle = noSteps 14
 ofStep st own row Load1 = numbers 1 1 0 0
 ofStep st own row Load2 = numbers 1 2 0 0
 ofStep st own row (Load3 v) = cond (isNear (row .«old_number») (own .kept .number .0)) (numbers 2 3 1 v) (numbers 1 3 0 0)
@@ -44,14 +44,14 @@ ofStep st own row Check14 = cond (sameTag (st .x) (own .kept)) (numbers 5 1 0 0)
 
 -- "then 12 and 13 for a request, or 14 for a step"
 abbrev pub ofKind : State → Process → Kind → Numbers
-ofKind st p (Ask request) = cond (idle (recordAt st (p .0) .place)) (ofRequest st p request) (plain 12)
+ofKind st p (Ask request) = cond (idle (recordAt st (p .0) .place)) (ofRequest st p request) (noSteps 12)
 ofKind st p Step =
     let own = recordAt st (p .0) in
     ofStep st own (rowAt st (own .kept .process .0)) (own .place)
 
 -- "Order for an entry: 15, 11, then .."
 abbrev pub numbersOf : State → Process → Kind → Numbers
-numbersOf st p kind = cond (sound st) (cond (ltb (p .0) (st .n)) (ofKind st p kind) (plain 11)) (plain 15)
+numbersOf st p kind = cond (sound st) (cond (ltb (p .0) (st .n)) (ofKind st p kind) (noSteps 11)) (noSteps 15)
 
 -- the same four of what the log says
 abbrev pub numbersIn : Note → Numbers

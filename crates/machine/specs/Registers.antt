@@ -22,21 +22,21 @@ holds st (oldNumberOf q) = aNumber (rowAt st q .«old_number»)
 
 -- Steps 1, 8 and 14 are on X; 2, 3 and 5 on a register of q, the process in the kept tag; 7 and 10 on one of p's own; "Step 9 .. Only
 -- this step is on two registers, both p's own."
-abbrev pub reachedAt : ℕ → Record → Place → List Register
-reachedAt p own Idle = []
-reachedAt p own Load1 = theX ∷ []
-reachedAt p own Load2 = slotOf (own .kept .process .0) (own .kept .number .0 % 2) ∷ []
-reachedAt p own (Load3 v) = oldNumberOf (own .kept .process .0) ∷ []
-reachedAt p own Load5 = oldValueOf (own .kept .process .0) ∷ []
-reachedAt p own (Store7 v) = slotOf p (own .next .0 % 2) ∷ []
-reachedAt p own Store8 = theX ∷ []
-reachedAt p own Store9 = slotOf p (own .next .0 % 2) ∷ oldValueOf p ∷ []
-reachedAt p own Store10 = oldNumberOf p ∷ []
-reachedAt p own Check14 = theX ∷ []
+abbrev pub registersAt : ℕ → Record → Place → List Register
+registersAt p own Idle = []
+registersAt p own Load1 = theX ∷ []
+registersAt p own Load2 = slotOf (own .kept .process .0) (own .kept .number .0 % 2) ∷ []
+registersAt p own (Load3 v) = oldNumberOf (own .kept .process .0) ∷ []
+registersAt p own Load5 = oldValueOf (own .kept .process .0) ∷ []
+registersAt p own (Store7 v) = slotOf p (own .next .0 % 2) ∷ []
+registersAt p own Store8 = theX ∷ []
+registersAt p own Store9 = slotOf p (own .next .0 % 2) ∷ oldValueOf p ∷ []
+registersAt p own Store10 = oldNumberOf p ∷ []
+registersAt p own Check14 = theX ∷ []
 
 -- the registers that p's next step is on
 abbrev pub stepIsOn : State → ℕ → List Register
-stepIsOn st p = reachedAt p (recordAt st p) (recordAt st p .place)
+stepIsOn st p = registersAt p (recordAt st p) (recordAt st p .place)
 
 -- Two states hold the same in these registers.
 abbrev pub AgreeOn : List Register → State → State → Type 0

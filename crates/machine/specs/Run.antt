@@ -33,8 +33,8 @@ abbrev pub stepsOf : State → Process → Kind → Outcome → ℕ
 stepsOf st p kind outcome = stepsBy (recordAt st (p .0) .place) kind outcome
 
 -- "how often X has changed" goes by this: X after the entry is not X before it
-abbrev pub changes : State → State → Bool
-changes before after = not (sameTag (before .x) (after .x))
+abbrev pub xChanged : State → State → Bool
+xChanged before after = not (sameTag (before .x) (after .x))
 
 abbrev pub noteBy : State → Entry → Answer → Note
 noteBy st e a =
@@ -44,7 +44,7 @@ noteBy st e a =
       steps = stepsOf st (e .process) (e .kind) (a .outcome);
       mark = toldOf (a .outcome) .mark;
       value = toldOf (a .outcome) .value;
-      changed = changes st (a .state);
+      changed = xChanged st (a .state);
     }
 
 abbrev pub noteOf : State → Entry → Note

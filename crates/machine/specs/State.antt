@@ -7,7 +7,7 @@ use lib.IntN.{pos, ℤ, negsuc}
 use lib.ListN.{getD, replicate}
 use Rattle.numbers.specs.Numbers.{inRange, allBelow}
 use Rattle.step.specs.Steps.{isOld, storing}
-use Rattle.machine.specs.Types.{Sequence, Tag, Row, Record, Idle, State, Start, Ready, OutOfRange, Started}
+use Rattle.machine.specs.Types.{Sequence, Tag, Row, Record, Idle, State, Start, InRange, OutOfRange, Started}
 
 -- past the 16th there is no row and no record; these stand for them
 abbrev pub noTag : Tag
@@ -85,8 +85,8 @@ zeroState =
 
 -- "a direct start gives 4 for N or S and a state of zeros, all idle"
 unfoldable pub startOf : ℕ → Sequence → ℕ → Started
-startOf n s v = cond (inRange n s) (record { state = firstState n s v; start = Ready }) (record { state = zeroState; start = OutOfRange })
+startOf n s v = cond (inRange n s) (record { state = firstState n s v; start = InRange }) (record { state = zeroState; start = OutOfRange })
 
 abbrev pub startNumber : Start → ℕ
-startNumber Ready = 0
+startNumber InRange = 0
 startNumber OutOfRange = 4

@@ -10,14 +10,14 @@ use Rattle.machine.specs.Types.{Entry, Kind, Ask, Step, Request, Load, S
 
 pub record Line : Type 0 where
   pub entry : Entry
-  pub says : Note
+  pub logged : Note
 
 -- process, kind; outcome, steps, mark, value, whether X changed
 abbrev pub line : ℕ → Kind → ℕ → ℕ → ℕ → ℕ → Bool → Line
 line p kind outcome steps mark value changed =
     record {
       entry = record { process = record { 0 = p }; kind = kind };
-      says = record { outcome = outcome; process = p; steps = steps; mark = mark; value = value; changed = changed };
+      logged = record { outcome = outcome; process = p; steps = steps; mark = mark; value = value; changed = changed };
     }
 
 -- a request that is taken; a step after which the call goes on; the step 8 that changes X
@@ -65,7 +65,7 @@ behind = asks 1 Load ∷ goes 1 1 ∷ (LL 0 7 ++ (SC 0 20 ++ LL 0 20))
 
 -- the log of these entries from the start of n, s and v says what the lines say
 abbrev pub Right : ℕ → ℕ → ℕ → List Line → Type 0
-Right n s v lines = notes (startOf n (record { 0 = s }) v .state) (map (λ l. l .entry) lines) ≡ map (λ l. l .says) lines
+Right n s v lines = notes (startOf n (record { 0 = s }) v .state) (map (λ l. l .entry) lines) ≡ map (λ l. l .logged) lines
 
 -- "V is 7, S 9, N 2 unless said."
 pub record RunsAToL : Type 0 where

@@ -17,6 +17,6 @@ pub use Rattle.step.specs.declared.Stepped.{Stepped}
 pub use Rattle.step.specs.declared.Tag.{Tag}
 pub use Rattle.machine.specs.declared.Answer.{Answer}
 pub use Rattle.machine.specs.declared.Start.{Start}
-pub use Rattle.machine.specs.declared.Start.the-variants.{Ready, OutOfRange}
+pub use Rattle.machine.specs.declared.Start.the-variants.{InRange, OutOfRange}
 pub use Rattle.machine.specs.declared.Started.{Started}
 pub use Rattle.machine.specs.declared.State.{State}

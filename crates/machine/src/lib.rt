@@ -27,7 +27,7 @@ pub struct Answer {
 
 // Whether a start was taken, or turned away because N or S is out of range.
 pub enum Start {
-    Ready,
+    InRange,
     OutOfRange,
 }
 

@@ -88,7 +88,7 @@ pub fn start(n: usize, s: Sequence, v: u64) -> Started
         let state = first_state(n, s, v);
         Started {
             state: state,
-            start: Start::Ready,
+            start: Start::InRange,
         }
     } else {
         let state = zero_state();
@@ -104,7 +104,7 @@ pub fn start_number(start: Start) -> u8
     ensures { λ r. ⌜ r ≡ startNumber start ⌝ }
 {
     match start {
-        Start::Ready => 0,
+        Start::InRange => 0,
         Start::OutOfRange => 4,
     }
 }

@@ -39,10 +39,10 @@ pub fn row_given(p: Process, own: Record, kind: Kind) -> Process
     }
 }
 
-fn ask_parts(s: Sequence, x: Tag, own: Record, row: Row, asked: Request) -> Stepped
-    ensures { λ r. ⌜ r ≡ withParts x row (requestOf s own asked) ⌝ }
+fn ask_parts(s: Sequence, x: Tag, own: Record, row: Row, wanted: Request) -> Stepped
+    ensures { λ r. ⌜ r ≡ withParts x row (requestOf s own wanted) ⌝ }
 {
-    let r = request(s, own, asked);
+    let r = request(s, own, wanted);
     let left = r.own;
     let outcome = r.outcome;
     Stepped {
@@ -65,7 +65,7 @@ pub(crate) fn parts_after(
     ensures { λ r. ⌜ r ≡ partsAfter s p x own row kind ⌝ }
 {
     match kind {
-        Kind::Ask(asked) => ask_parts(s, x, own, row, asked),
+        Kind::Ask(wanted) => ask_parts(s, x, own, row, wanted),
         Kind::Step => step(p, x, own, row),
     }
 }
@@ -95,7 +95,7 @@ pub fn play_parts(
     }
 }
 
-// How many own steps the log says of an entry, by the place before it and the number of its outcome.
+// How many own steps the log says of an entry, by the place before it and its outcome.
 pub fn steps_by(place: Place, kind: Kind, outcome: Outcome) -> u8
     ensures { λ r. ⌜ r ≡ stepsBy place kind outcome ⌝ }
 {

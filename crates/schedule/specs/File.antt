@@ -89,7 +89,7 @@ entryFine e = kindFine e && entryClear e
 
 -- an entry of process p that asks this of it
 abbrev pub entryBy : ℕ → Kind → Entry
-entryBy p asked = record { process = record { 0 = p }; kind = asked }
+entryBy p what = record { process = record { 0 = p }; kind = what }
 
 -- Where no entry stands: a step of process 255, which no machine has, so that every run turns it away with 11.
 abbrev pub noEntry : Entry

@@ -1,7 +1,7 @@
 -- Laws of the signed old number, by cases on its sign; every other file speaks of natural numbers.
 use Prim.Native.Nat.{ℕ, zero, suc, _+_, _-_, _≤_, _<_}
-use mathlib.Core.Path.{_≡_, refl, sym, subst, _∙_}
-use mathlib.Core.Bool.{Bool, true, false, cond, _&&_, _||_}
+use mathlib.Core.Path.{_≡_, refl, sym, _∙_}
+use mathlib.Core.Bool.{Bool, true, false, cond, _&&_, _||_, false≢true}
 use native.Mathlib.Omega.{arith}
 use native.Mathlib.Decide.{ℕ-discrete}
 use lib.Dec.{T, leb, ltb, eqb}
@@ -47,19 +47,16 @@ or-leb false false m n f g h = go (leb m n) refl
     go true e = sym (h (leb-true m n e))
     go false e = refl
 
-false-true : {A : Type 0} → false ≡ true → A
-false-true e = absurd (subst T (sym e) tt)
-
 -- Step 3's test, for an old number o: below -2, -2, -1, and from 0 on.
 pub near-far : (o : ℤ) (k : ℕ) → ltZ o (negsuc 1) ≡ true → false ≡ isNear o k
-near-far (pos n) k e = false-true e
+near-far (pos n) k e = absurd (false≢true e)
 near-far (negsuc m) k e =
     sym
     (rw (neg-minus m k 2, neg-minus m k 1)
     (rw (ne-eqb (k + suc m) 2 (λ h. omega (arith, ltb-true 1 m e, h)), ne-eqb (k + suc m) 1 (λ h. omega (arith, ltb-true 1 m e, h)))))
 
 pub near-two : (o : ℤ) (k : ℕ) → ltZ o (negsuc 1) ≡ false → ltZ o (negsuc 0) ≡ true → eqb k 0 ≡ isNear o k
-near-two (pos n) k e f = false-true f
+near-two (pos n) k e f = absurd (false≢true f)
 near-two (negsuc m) k e f =
     let one : m ≡ 1 = omega (arith, ltb-false 1 m e, ltb-true 0 m f) in
     rw (neg-minus m k 2, neg-minus m k 1, one)
@@ -89,14 +86,14 @@ near-one (negsuc m) k e f =
     go (suc (suc j)) h = absurd (omega (arith, h))
 
 pub near-behind : (o : ℤ) (k : ℕ) → ltZ o (pos 0) ≡ false → k ≤ natAbs o → false ≡ isNear o k
-near-behind (negsuc m) k e h = false-true (sym e)
+near-behind (negsuc m) k e h = absurd (false≢true (sym e))
 near-behind (pos n) k e h =
     sym
     (rw (pos-minus n k 2, pos-minus n k 1)
     (rw (ne-eqb (n + 2) k (λ i. omega (arith, h, i)), ne-eqb (n + 1) k (λ i. omega (arith, h, i)))))
 
 pub near-ahead : (o : ℤ) (k : ℕ) → ltZ o (pos 0) ≡ false → natAbs o < k → leb (k - natAbs o) 2 ≡ isNear o k
-near-ahead (negsuc m) k e h = false-true (sym e)
+near-ahead (negsuc m) k e h = absurd (false≢true (sym e))
 near-ahead (pos n) k e h =
     rw (pos-minus n k 2, pos-minus n k 1)
     (or-leb (eqb (n + 2) k) (eqb (n + 1) k) (k - n) 2
@@ -111,7 +108,7 @@ near-ahead (pos n) k e h =
 -- An old number from 0 on can be read as a natural number.
 pub nonneg-cast : (o : ℤ) → SFits w64 o → ltZ o (pos 0) ≡ false → T (nonNeg o) × Fits w64 (natAbs o)
 nonneg-cast (pos n) h e = (tt, record { fits = omega (arith, h .sfits) })
-nonneg-cast (negsuc m) h e = false-true (sym e)
+nonneg-cast (negsuc m) h e = absurd (false≢true (sym e))
 
 -- The range -1 to s, for an old number below 0 and for one from 0 on.
 pub old-below : (o : ℤ) (s : ℕ) → ltZ o (pos 0) ≡ true → leZ (negsuc 0) o ≡ isOld o s
@@ -124,7 +121,7 @@ old-below (negsuc m) s e = go (leZ (negsuc 0) (negsuc m))
 
 pub old-above : (o : ℤ) (s : ℕ) → ltZ o (pos 0) ≡ false → leb (natAbs o) s ≡ isOld o s
 old-above (pos n) s e = refl
-old-above (negsuc m) s e = false-true (sym e)
+old-above (negsuc m) s e = absurd (false≢true (sym e))
 
 -- What is read from the field is what the field holds.
 pub read-back : (o : ℤ) → SFits w64 o → toZ w64 (ofZ w64 o) ≡ o

@@ -1,4 +1,4 @@
--- Document 01, "The steps": the ten steps, a request, and what the log says of each outcome. A step of process p sees X, p's own record and
+-- Document 01, "The steps": each step, a request, and what the log says of each outcome. A step of process p sees X, p's own record and
 -- one row of registers, and says what it leaves of each. An old number is an integer, from -1; every other number is a natural number.
 use Prim.Native.Nat.{ℕ, _+_, _%_}
 use mathlib.Core.Bool.{true, Bool, false, _&&_, _||_, cond}
@@ -23,7 +23,7 @@ isNear o k = eqZ o (pos k -ℤ pos 2) || eqZ o (pos k -ℤ pos 1)
 abbrev pub isOld : ℤ → ℕ → Bool
 isOld o s = leZ (negsuc 0) o && leZ o (pos s)
 
--- "p's old number becomes next number - 2"
+-- "p's old number becomes .."
 abbrev pub withOld : Row → ℤ → Row
 withOld r o = record { slots = r .slots; «old_value» = r .«old_value»; «old_number» = o }
 

@@ -1,4 +1,4 @@
-// The tests on numbers that the steps make. The signed old number is read and written in this file only.
+// The tests on numbers that the steps make. The signed old number is read and written here; only a start sets it elsewhere.
 ghost use mathlib.Core.Path.{_≡_};
 ghost use Prim.Native.Nat.{_≤_};
 ghost use lib.IntN.{pos, _-ℤ_};

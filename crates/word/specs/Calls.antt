@@ -28,10 +28,11 @@ pub record Reply (A : Type 0) : Type 0 where
   pub steps : ℕ
   pub answer : Answer A
 
--- What is known before the entry at place `now`: for each process the place of its latest request, its word, what it asked, and the own
--- steps since; the calls to be played; and the replies.
+-- What is known before the entry at place `now`: for each process whether it has a call open, the place of its latest request, its word,
+-- what it asked, and the own steps since; the calls to be played; and the replies.
 pub record Calls (A : Type 0) : Type 0 where
   pub now : ℕ
+  pub opened : ℕ → Bool
   pub asked : ℕ → ℕ
   pub word : ℕ → ℕ
   pub op : ℕ → Op A
@@ -53,7 +54,7 @@ module _ {A : Type 0} where
   isDone saysNo = false
 
   abbrev pub noCalls : Calls A
-  noCalls = record { now = 0; asked = λ p. 0; word = λ p. 0; op = λ p. load; steps = λ p. 0; played = []; replies = [] }
+  noCalls = record { now = 0; opened = λ p. false; asked = λ p. 0; word = λ p. 0; op = λ p. load; steps = λ p. 0; played = []; replies = [] }
 
   -- p's call, decided now; p's reply now
   abbrev pub callBy : Calls A → ℕ → Answer A → Call A
@@ -75,15 +76,16 @@ module _ {A : Type 0} where
   decidesIn d c away = false
 
   -- one place further, with no request
-  abbrev pub noted : Calls A → (ℕ → ℕ) → List (Call A) → List (Reply A) → Calls A
-  noted c steps played replies =
-      record { now = suc (c .now); asked = c .asked; word = c .word; op = c .op; steps = steps; played = played; replies = replies }
+  abbrev pub noted : Calls A → (ℕ → Bool) → (ℕ → ℕ) → List (Call A) → List (Reply A) → Calls A
+  noted c opened steps played replies =
+      record { now = suc (c .now); opened = opened; asked = c .asked; word = c .word; op = c .op; steps = steps; played = played; replies = replies }
 
   -- One item. Every call but such a store is decided by the step that answers it; "other unanswered calls are not played".
   abbrev pub goOn : ℕ → Calls A → Item A → Calls A
   goOn d c (asks p w o) =
       record {
         now = suc (c .now);
+        opened = put p true (c .opened);
         asked = put p (c .now) (c .asked);
         word = put p w (c .word);
         op = put p o (c .op);
@@ -92,10 +94,10 @@ module _ {A : Type 0} where
         replies = c .replies;
       }
   goOn d c (goes p) =
-      noted c (put p (suc (c .steps p)) (c .steps)) (cond (decides d c p) (c .played ++ callBy c p done ∷ []) (c .played)) (c .replies)
+      noted c (c .opened) (put p (suc (c .steps p)) (c .steps)) (cond (decides d c p) (c .played ++ callBy c p done ∷ []) (c .played)) (c .replies)
   goOn d c (answers p a) =
-      noted c (put p (suc (c .steps p)) (c .steps)) (cond (isDone a) (c .played) (c .played ++ callBy c p a ∷ [])) (c .replies ++ replyBy c p a ∷ [])
-  goOn d c away = noted c (c .steps) (c .played) (c .replies)
+      noted c (put p false (c .opened)) (put p (suc (c .steps p)) (c .steps)) (cond (isDone a) (c .played) (c .played ++ callBy c p a ∷ [])) (c .replies ++ replyBy c p a ∷ [])
+  goOn d c away = noted c (c .opened) (c .steps) (c .played) (c .replies)
 
   unfoldable pub callsFrom : ℕ → Calls A → List (Item A) → Calls A
   callsFrom d c [] = c

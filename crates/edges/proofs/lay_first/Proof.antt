@@ -3,8 +3,8 @@
 use borrow.Author.Needs.{needs}
 use native.Mathlib.Omega.{arith}
 use lib.ListN.{length-set}
-use Rattle.edges.proofs.lay_head.Statement.{statement}
-use Rattle.edges.proofs.lay_head.Tie as tie
+use Rattle.edges.proofs.lay_first.Statement.{statement}
+use Rattle.edges.proofs.lay_first.Tie as tie
 
 slice-write-file : tie.Need-slice-write-file
 slice-write-file c = search needs
@@ -24,8 +24,8 @@ same-length c = search needs
 returns : tie.Need-returns
 returns c = search needs
 
-pub lay-head-spec : {M : Type 1} → statement M
-lay-head-spec =
+pub lay-first-spec : {M : Type 1} → statement M
+lay-first-spec =
     tie.close
     (tie.spec
     slice-write-file
