@@ -17,7 +17,8 @@ use Rattle.machine.specs.Entry.{called}
 use Rattle.machine.specs.Frame.{Ready}
 use Rattle.machine.specs.Run.{turnedAway, xChanged}
 use Rattle.word.specs.Word.{Op, load, store, check, Answer, value, done, notDone, saysYes, saysNo, put, Call}
-use Rattle.word.specs.Calls.{Item, away, Reply, Calls, isStore, noCalls, callBy, decides, decidesIn, goOn, callOf}
+use Rattle.word.specs.Calls.{Item, away, Reply, Calls, isStore, noCalls, callBy, decides, goOn, callOf}
+use Rattle.word.specs.Decides.{decidesIn}
 use Rattle.word.proofs.Put.{split, put-same, put-other}
 use Rattle.word.proofs.Lists.{every-map, every-snoc}
 use Rattle.word.proofs.Good.{Own, own-snoc}

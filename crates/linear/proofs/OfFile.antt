@@ -15,7 +15,8 @@ use Rattle.machine.proofs.Values.{values-below}
 use Rattle.schedule.specs.File.{reading, fileEntries}
 use Rattle.linear.specs.Types.{Accepted, Head}
 use Rattle.schedule.proofs.Accepted.{accepted-answer}
-use Rattle.log.specs.Log.{headOf, recordsOf, logOf, logLength, headIn, notesIn}
+use Rattle.log.specs.Log.{headOf, recordsOf, logLength, headIn, notesIn}
+use Rattle.log.specs.Found.{logOf}
 use Rattle.log.specs.declared.Note as log
 use Rattle.log.proofs.Laws.{head-length, log-length}
 use Rattle.log.proofs.Back.{head-in, notes-back}

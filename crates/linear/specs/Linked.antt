@@ -9,7 +9,8 @@ use Rattle.linear.specs.Types.{Entry}
 use Rattle.machine.specs.Run.{Note}
 use Rattle.bench.specs.Bench.{inLog}
 use Rattle.word.specs.Word.{Link, none, at, Op, load, store, check, value, done, notDone, saysYes, saysNo, put, linked}
-use Rattle.word.specs.Calls.{Item, asks, goes, answers, away, Calls, decides, decidesIn, goOn}
+use Rattle.word.specs.Calls.{Item, asks, goes, answers, away, Calls, decides, goOn}
+use Rattle.word.specs.Decides.{decidesIn}
 use Rattle.linear.specs.Demand3.{stepOfStore, itemOf}
 
 -- X changes exactly where a store's second own step goes on. The notes are demand 2's, which say of each entry whether X changed.

@@ -11,7 +11,8 @@ use lib.Seq.{getD-append-seam, drop-at, split-at, length-take-le}
 use Rattle.numbers.specs.Numbers.{bytesOf, numberAt}
 use Rattle.numbers.proofs.Below.{same-below, listed-all}
 use Rattle.numbers.proofs.Bytes.{number-back}
-use Rattle.log.specs.Log.{headOf, recordOf, recordsOf, logOf, logLength, headIn, noteIn, notesIn}
+use Rattle.log.specs.Log.{headOf, recordOf, recordsOf, logLength, headIn, noteIn, notesIn}
+use Rattle.log.specs.Found.{logOf}
 use Rattle.log.specs.Found.{headFound, noteFound}
 use Rattle.log.specs.Types.{Laid, Note, Written}
 use Rattle.log.proofs.Laws.{head-length, records-length, records-append, log-length}

@@ -8,7 +8,8 @@ use native.Mathlib.Omega.{arith}
 use borrow.Author.Tests.{le-leb, lt-leb}
 use lib.ListN.{length, take, drop, length-append, length-drop}
 use lib.Seq.{sets, sets-eq, length-take-le, take-all, take-at, drop-at, drop-append-add, drop-drop, drop-length}
-use Rattle.log.specs.Log.{headOf, recordOf, recordsOf, logOf, laid, logLength}
+use Rattle.log.specs.Log.{headOf, recordOf, recordsOf, laid, logLength}
+use Rattle.log.specs.Found.{logOf}
 use Rattle.log.specs.Types.{Note}
 
 pub head-length : (entries changes n : ℕ) → length (headOf entries changes n) ≡ 12

@@ -20,10 +20,6 @@ unfoldable pub recordsOf : List Note → List ℕ
 recordsOf [] = []
 recordsOf (note ∷ notes) = recordOf note ++ recordsOf notes
 
--- the whole log of these entries
-unfoldable pub logOf : ℕ → ℕ → List Note → List ℕ
-logOf changes n notes = headOf (length notes) changes n ++ recordsOf notes
-
 -- Bytes at the front of a lent part; what lies past them keeps what it held. A part that is too short for them stays as it was.
 unfoldable pub laid : List ℕ → List ℕ → List ℕ
 laid bytes part = cond (leb (length bytes) (length part)) (bytes ++ drop (length bytes) part) part

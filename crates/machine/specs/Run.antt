@@ -36,8 +36,9 @@ stepsOf st p kind outcome = stepsBy (recordAt st (p .0) .place) kind outcome
 abbrev pub xChanged : State → State → Bool
 xChanged before after = not (sameTag (before .x) (after .x))
 
-abbrev pub noteBy : State → Entry → Answer → Note
-noteBy st e a =
+abbrev pub noteOf : State → Entry → Note
+noteOf st e =
+    let a = played st e in
     record {
       outcome = toldOf (a .outcome) .number;
       process = e .process .0;
@@ -46,9 +47,6 @@ noteBy st e a =
       value = toldOf (a .outcome) .value;
       changed = xChanged st (a .state);
     }
-
-abbrev pub noteOf : State → Entry → Note
-noteOf st e = noteBy st e (played st e)
 
 -- the state after a list of entries, and the notes of them in order
 unfoldable pub after : State → List Entry → State

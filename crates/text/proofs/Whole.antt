@@ -5,7 +5,7 @@ use mathlib.Core.Path.{_≡_, refl}
 use mathlib.Core.List.{List, [], _∷_, _++_}
 use lib.ListN.{length, length-append}
 use lib.Seq.{append-snoc}
-use Rattle.log.specs.Log.{logOf}
+use Rattle.log.specs.Found.{logOf}
 use Rattle.text.specs.Types.{Note}
 use Rattle.log.proofs.Back.{head-read, note-among}
 use Rattle.text.specs.Lines.{headLine, linesFrom, linesOf, textOf}

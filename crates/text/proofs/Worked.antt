@@ -1,7 +1,8 @@
 -- The worked run's output, by evaluation of the definitions.
 -- Assumes nothing.
 use mathlib.Core.Path.{refl}
-use Rattle.log.specs.Log.{headOf, recordOf, recordsOf, logOf, headIn, noteIn}
+use Rattle.log.specs.Log.{headOf, recordOf, recordsOf, headIn, noteIn}
+use Rattle.log.specs.Found.{logOf}
 use Rattle.log.specs.Found.{headFound, noteFound}
 use Rattle.text.specs.Decimal.{digitsOf, decimalOf}
 use Rattle.text.specs.Lines.{headLine, lineOf, refusedLine, linesFrom, textOf}

@@ -2,7 +2,7 @@
 use Prim.Native.Nat.{ℕ}
 use mathlib.Core.Path.{_≡_}
 use mathlib.Core.List.{List, [], _∷_, _++_}
-use Rattle.log.specs.Log.{logOf}
+use Rattle.log.specs.Found.{logOf}
 use Rattle.text.specs.Types.{Note}
 use Rattle.text.specs.Lines.{bytesIn, textOf, refusedLine}
 

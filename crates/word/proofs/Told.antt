@@ -7,7 +7,8 @@ use mathlib.Core.Logic.{inl, inr, ⊎-elim}
 use mathlib.Core.List.{List, [], _∷_, _++_, List·Memᴰ, List·Memᴰ·head, List·Memᴰ·not-nil, List·Memᴰ·cases-cons, Memᴰ·append-left, Memᴰ·append-right}
 use native.Mathlib.Omega.{arith}
 use Rattle.word.specs.Word.{value, done, notDone, saysYes, saysNo, Call, Every}
-use Rattle.word.specs.Calls.{Item, asks, goes, answers, away, Reply, Calls, isDone, callBy, decides, decidesIn, goOn, doneCount, callOf, IsPlayed, OneByOne, AnsweredOrDone}
+use Rattle.word.specs.Calls.{Item, asks, goes, answers, away, Reply, Calls, isDone, callBy, decides, goOn, doneCount, callOf, IsPlayed, OneByOne, AnsweredOrDone}
+use Rattle.word.specs.Decides.{decidesIn}
 use Rattle.word.proofs.Lists.{every-map, every-both, every-snoc}
 use Rattle.word.proofs.Good.{Own}
 

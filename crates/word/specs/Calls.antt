@@ -69,12 +69,6 @@ module _ {A : Type 0} where
   abbrev pub decides : ℕ → Calls A → ℕ → Bool
   decides d c p = isStore (c .op p) && eqb (suc (c .steps p)) d
 
-  abbrev pub decidesIn : ℕ → Calls A → Item A → Bool
-  decidesIn d c (asks p w o) = false
-  decidesIn d c (goes p) = decides d c p
-  decidesIn d c (answers p a) = false
-  decidesIn d c away = false
-
   -- one place further, with no request
   abbrev pub noted : Calls A → (ℕ → Bool) → (ℕ → ℕ) → List (Call A) → List (Reply A) → Calls A
   noted c opened steps played replies =

@@ -1,2 +1,3 @@
-pub mod Calls
 pub mod Word
+pub mod Calls
+pub mod Decides
