@@ -3,10 +3,12 @@
 -- Assumes nothing.
 use Prim.Native.Nat.{ℕ}
 use mathlib.Core.Path.{_≡_, refl}
-use mathlib.Core.List.{List, [], _∷_, List·Mem, Perm·cons, Perm·symm, Perm·mem-iff, perm-append-singleton}
+use mathlib.Core.HLevel.{⊥-prop, ¬-prop}
+use mathlib.Core.List.{List, [], _∷_, List·Mem, Perm, Perm·cons, Perm·symm, Perm·mem-iff, perm-append-singleton}
 use native.Mathlib.Omega.{arith}
-use Rattle.word.specs.Word.{Op, load, store, check, Answer, value, done, notDone, saysYes, saysNo, first, Call, Every, Plays, InTime, InOrder}
+use Rattle.word.specs.Word.{Op, load, store, check, Answer, value, done, notDone, saysYes, saysNo, answerOf, first, Call, Every, Plays, InTime, InOrder}
 use Rattle.word.specs.Calls.{Item, asks, goes, answers, away, Reply, noCalls, callsFrom}
+use Rattle.word.proofs.Lists.{every-perm}
 
 -- Exactly the calls given: each stands in the order, and nothing else does.
 module _ {A : Type 0} (a : A) (calls : List (Call A)) (o : InOrder a calls) (c : Call A) where
@@ -15,6 +17,19 @@ module _ {A : Type 0} (a : A) (calls : List (Call A)) (o : InOrder a calls) (c :
 
   pub given : List·Mem c (o .order) → List·Mem c calls
   given = Perm·mem-iff (o .once) .0
+
+module _ {A : Type 0} (a : A) where
+  -- the start does not give d its answer
+  abbrev pub NotFirst : Call A → Type 0
+  NotFirst d = ¬ (answerOf (first a (d .word)) (d .process) (d .op) ≡ d .answer)
+
+  -- Some call stands first: if the start gives none of them its answer, there is no order of them.
+  pub some-first : (c : Call A) (cs : List (Call A)) → Every NotFirst (c ∷ cs) → ¬ InOrder a (c ∷ cs)
+  some-first c cs h o = by-order (o .order) (o .once) (o .plays)
+    where
+      by-order : (order : List (Call A)) → Perm order (c ∷ cs) → Plays (first a) order → ⊥
+      by-order [] p t = every-perm (λ d. ⊥) (λ d. ⊥-prop) p tt .0
+      by-order (d ∷ ds) p t = every-perm NotFirst (λ d. ¬-prop) (Perm·symm p) h .0 (t .0)
 
 -- a call of process p on word w, requested and decided at these places
 abbrev pub call : ℕ → ℕ → ℕ → ℕ → Op ℕ → Answer ℕ → Call ℕ
