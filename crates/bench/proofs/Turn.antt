@@ -14,7 +14,7 @@ use Rattle.machine.specs.State.{rowAt, recordAt}
 use Rattle.machine.specs.Entry.{rowGiven, withEntry}
 use Rattle.machine.specs.Parts.{seatOf, playedParts}
 use Rattle.machine.specs.Frame.{Ready}
-use Rattle.machine.specs.Run.{Note, played, noteOf, notes, after, changeCount, stepsBy}
+use Rattle.machine.specs.Run.{EntryNote, played, noteOf, notes, after, changeCount, stepsBy}
 use Rattle.machine.proofs.RunLaws.{ready-after, after-append, notes-append, count-append, size-kept, notes-length, count-most}
 use Rattle.machine.proofs.PartsOfRun.{seat, given, played-by-parts, seat-within, given-within}
 use Rattle.schedule.specs.Direct.{entryAt}
@@ -167,7 +167,7 @@ module _ {part rest₀ : List ℕ} {n : ℕ} {s : Sequence} {end : ℕ} {st₀ :
       note-is = cc (says, note-written st e ready-now, seat-is, left-is)
 
       more : done ++ recordOf note ≡ recordsOf (map inLog (notes st₀ (partEntries part (j + 1))))
-      more = rw (notes-more part st₀ j, map-append, records-more, note-is) (ap (λ (w : Note). done ++ recordOf (inLog w)) (sym note-now))
+      more = rw (notes-more part st₀ j, map-append, records-more, note-is) (ap (λ (w : EntryNote). done ++ recordOf (inLog w)) (sym note-now))
 
       place : 12 * j + 12 ≡ 12 * (j + 1)
       place = omega arith

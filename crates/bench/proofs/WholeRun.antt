@@ -9,7 +9,7 @@ use lib.Seq.{take-at, drop-at, drop-drop}
 use Rattle.numbers.specs.Numbers.{inRange}
 use Rattle.machine.specs.State.{firstState, zeroState, startOf}
 use Rattle.machine.specs.Frame.{Ready}
-use Rattle.machine.specs.Run.{Note, notes, changeCount}
+use Rattle.machine.specs.Run.{EntryNote, notes, changeCount}
 use Rattle.bench.specs.Types.{Started, Start, Accepted, Played}
 use Rattle.machine.proofs.RunLaws.{ready-start, notes-length, count-most}
 use Rattle.schedule.specs.File.{fileEntries, reading}
@@ -98,7 +98,7 @@ module _ (f : List ℕ) (n s v c : ℕ) (is : reading f ≡ Accepted n s v c) wh
             head : List ℕ
             head = headOf c (played .changes .0) n
 
-            ws : List Note
+            ws : List EntryNote
             ws = notesOf f n s v
 
             long : length ws ≡ length (fileEntries f)

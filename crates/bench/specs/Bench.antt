@@ -7,12 +7,12 @@ use lib.ListN.{length, drop}
 use Rattle.schedule.specs.File.{reading, fileEntries}
 use Rattle.bench.specs.Types.{Reading, Refused, Accepted, State, Ran}
 use Rattle.machine.specs.State.{startOf, zeroState}
-use Rattle.machine.specs.Run.{Note, notes, after, changeCount}
+use Rattle.machine.specs.Run.{EntryNote, notes, after, changeCount}
 use Rattle.log.specs.declared.Note as log
 use Rattle.log.specs.Log.{headOf, recordsOf, logLength}
 
 -- "in order: outcome, process, own steps of this call so far with this one .., mark, value"
-abbrev pub inLog : Note → log.Note
+abbrev pub inLog : EntryNote → log.Note
 inLog w = record { outcome = w .outcome; process = w .process; steps = w .steps; mark = w .mark; value = w .value }
 
 -- the state that a file's run starts from: the start of its N, S and V
@@ -20,7 +20,7 @@ abbrev pub startState : ℕ → ℕ → ℕ → State
 startState n s v = startOf n (record { 0 = s }) v .state
 
 -- what the log says of each entry of a file
-unfoldable pub notesOf : List ℕ → ℕ → ℕ → ℕ → List Note
+unfoldable pub notesOf : List ℕ → ℕ → ℕ → ℕ → List EntryNote
 notesOf f n s v = notes (startState n s v) (fileEntries f)
 
 -- the state after them
@@ -29,7 +29,7 @@ lastState f n s v = after (startState n s v) (fileEntries f)
 
 -- "First 12 bytes: entry count .., how often X has changed .., N .. Then the records .. Bytes of the lent log past the last record
 -- keep what they held."
-abbrev pub written : List Note → ℕ → List ℕ → List ℕ
+abbrev pub written : List EntryNote → ℕ → List ℕ → List ℕ
 written ws n log = headOf (length ws) (changeCount ws) n ++ (recordsOf (map inLog ws) ++ drop (logLength (length ws)) log)
 
 -- turned away: a number, a block, and a state of zeros

@@ -5,10 +5,9 @@ use Prim.Native.Nat.{ℕ}
 use mathlib.Core.Path.{_≡_, refl}
 use mathlib.Core.List.{List, [], _∷_, _++_, map}
 use Rattle.linear.specs.Types.{Ask, Step, Load, Store, Check}
-use Rattle.machine.specs.Table.{Line, asks, goes, gives, saysNo, away, LL, SCtwo, SC, SCfails, behind}
+use Rattle.machine.specs.Table.{Line, requestTaken, stepTaken, answersLL, saysNoVL, entryRefused, LL, SCtwo, SC, SCfails, behind}
 use Rattle.bench.specs.Bench.{inLog}
-use Rattle.word.specs.Word.{Op, load, store, check, Answer, value, done, notDone, Call}
-use Rattle.word.specs.Word as word
+use Rattle.word.specs.Word.{Op, load, store, check, Answer, value, done, notDone, saysNo, Call}
 use Rattle.word.specs.Calls.{Reply, callsFrom}
 use Rattle.linear.specs.Demand3.{callsIn}
 
@@ -26,7 +25,7 @@ Reads lines played replies =
 
 pub record CallsOfRuns : Type 0 where
   -- "C: VL0 at the start: no."
-  pub C : Reads (asks 0 Check ∷ saysNo 0 ∷ []) (call 0 1 0 check word.saysNo ∷ []) (reply 1 0 0 check 1 word.saysNo ∷ [])
+  pub C : Reads (requestTaken 0 Check ∷ saysNoVL 0 ∷ []) (call 0 1 0 check saysNo ∷ []) (reply 1 0 0 check 1 saysNo ∷ [])
   -- D: done, decided at step 8; then not done
   pub D : Reads (LL 1 7 ++ (SC 1 40 ++ SCfails 1 41))
       (call 0 3 1 load (value 7) ∷ call 4 6 1 (store 40) done ∷ call 9 11 1 (store 41) notDone ∷ [])
@@ -36,12 +35,12 @@ pub record CallsOfRuns : Type 0 where
       (call 0 3 0 load (value 7) ∷ call 4 6 0 (store 20) done ∷ call 7 10 1 load (value 20) ∷ [])
       (reply 3 0 0 load 3 (value 7) ∷ reply 10 7 1 load 3 (value 20) ∷ [])
   -- H: the first request is answered last; the store of 30 is neither answered nor past its step 8, and is not played
-  pub H : Reads (behind ++ (asks 0 (Store 30) ∷ goes 0 1 ∷ goes 1 2 ∷ goes 1 3 ∷ gives 1 4 2 7 ∷ []))
+  pub H : Reads (behind ++ (requestTaken 0 (Store 30) ∷ stepTaken 0 1 ∷ stepTaken 1 2 ∷ stepTaken 1 3 ∷ answersLL 1 4 2 7 ∷ []))
       (call 2 5 0 load (value 7) ∷ call 6 8 0 (store 20) done ∷ call 11 14 0 load (value 20) ∷ call 0 19 1 load (value 7) ∷ [])
       (reply 5 2 0 load 3 (value 7) ∷ reply 10 6 0 (store 20) 4 done ∷ reply 14 11 0 load 3 (value 20) ∷ reply 19 0 1 load 4 (value 7) ∷ [])
   -- K and L: refused entries are no calls, nor do they count
-  pub K : Reads (asks 0 Check ∷ away 0 (Ask Load) 12 ∷ away 2 Step 11 ∷ saysNo 0 ∷ [])
-      (call 0 3 0 check word.saysNo ∷ []) (reply 3 0 0 check 1 word.saysNo ∷ [])
+  pub K : Reads (requestTaken 0 Check ∷ entryRefused 0 (Ask Load) 12 ∷ entryRefused 2 Step 11 ∷ saysNoVL 0 ∷ [])
+      (call 0 3 0 check saysNo ∷ []) (reply 3 0 0 check 1 saysNo ∷ [])
 
 pub runs-read : CallsOfRuns
 unfolding callsFrom

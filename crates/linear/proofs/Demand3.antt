@@ -11,7 +11,7 @@ use Rattle.numbers.specs.Numbers.{inRange}
 use Rattle.linear.specs.Types.{Sequence, Entry, State}
 use Rattle.machine.specs.State.{firstState}
 use Rattle.machine.specs.Frame.{Ready}
-use Rattle.machine.specs.Run.{Note, played, noteOf, after, notes, changeCount, xChanged}
+use Rattle.machine.specs.Run.{EntryNote, played, noteOf, after, notes, changeCount, xChanged}
 use Rattle.machine.proofs.Frame.{frame}
 use Rattle.machine.proofs.RunLaws.{ready-start, ready-played}
 use Rattle.bench.specs.Bench.{inLog}
@@ -27,7 +27,7 @@ use Rattle.linear.proofs.Simulated.{Simulated, sim-start, sim-entry}
 use Rattle.linear.proofs.Known.{KnownIn, known-start, known-entry}
 
 -- What holds after the entries es with the notes ws, of which the calls c have become c′ and the marks m some others.
-pub record Ended (n v : ℕ) (st : State) (c c′ : Calls ℕ) (m : Marks) (es : List Entry) (ws : List Note) : Type 0 where
+pub record Ended (n v : ℕ) (st : State) (c c′ : Calls ℕ) (m : Marks) (es : List Entry) (ws : List EntryNote) : Type 0 where
   pub marks : Marks
   pub sim : Simulated v st c′ marks
   pub known : KnownIn st c′

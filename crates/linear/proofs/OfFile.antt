@@ -8,7 +8,7 @@ use native.Mathlib.Omega.{arith}
 use lib.ListN.{take, length-append, length, getD, drop, length-map}
 use lib.Seq.{take-at}
 use borrow.Author.Tests.{le-leb}
-use Rattle.machine.specs.Run.{Note, notes, changeCount}
+use Rattle.machine.specs.Run.{EntryNote, notes, changeCount}
 use Rattle.machine.specs.State.{firstState}
 use Rattle.machine.proofs.RunLaws.{notes-length, count-most}
 use Rattle.machine.proofs.Values.{values-below}
@@ -28,14 +28,14 @@ use Rattle.linear.proofs.Demand3.{demand-3}
 use Rattle.linear.proofs.Values.{entries-small, first-small}
 
 -- the record of an entry, by its note
-record-at : (ws : List Note) (i : ℕ) (d : Note) (none : log.Note) → i < length ws → getD (map inLog ws) i none ≡ inLog (getD ws i d)
+record-at : (ws : List EntryNote) (i : ℕ) (d : EntryNote) (none : log.Note) → i < length ws → getD (map inLog ws) i none ≡ inLog (getD ws i d)
 record-at [] i d none l = absurd (omega (arith, l))
 record-at (w ∷ ws) zero d none l = refl
 record-at (w ∷ ws) (suc i) d none l = record-at ws i d none (omega (arith, l))
 
 module _ (f : List ℕ) (bytes : Every (λ b. b < 256) f) (n s v c : ℕ) (is : reading f ≡ Accepted n s v c) (lent : List ℕ) (room : logLength c ≤ length lent) where
   -- the notes of the run, and what lies behind their records
-  abbrev ws : List Note
+  abbrev ws : List EntryNote
   ws = notes (firstState n (record { 0 = s }) v) (fileEntries f)
 
   abbrev rest : List ℕ
@@ -72,7 +72,7 @@ module _ (f : List ℕ) (bytes : Every (λ b. b < 256) f) (n s v c : ℕ) (is : 
       rw (record-at ws i no-note none there)
       (values-below (2 ^ 64) (omega arith) n (record { 0 = s }) v (range f n s v c is) (rw (accepted-answer f is .1 .1 .1 .0) (first-small f bytes)) (fileEntries f) (entries-small f bytes) i no-note there)
     where
-      no-note : Note
+      no-note : EntryNote
       no-note = record { outcome = 0; process = 0; steps = 0; mark = 0; value = 0; changed = false }
 
   head-is : headIn (logAfter f lent) ≡ record { entries = length (map inLog ws); changes = changeCount ws; n = n }

@@ -6,7 +6,7 @@ use mathlib.Core.Bool.{Bool, true, false, cond, _&&_}
 use mathlib.Core.List.{List, [], _∷_}
 use lib.Dec.{eqb}
 use Rattle.linear.specs.Types.{Entry}
-use Rattle.machine.specs.Run.{Note}
+use Rattle.machine.specs.Run.{EntryNote}
 use Rattle.bench.specs.Bench.{inLog}
 use Rattle.word.specs.Word.{Link, none, at, Op, load, store, check, value, done, notDone, saysYes, saysNo, put, linked}
 use Rattle.word.specs.Calls.{Item, asks, goes, answers, away, Calls, decides, goOn}
@@ -14,7 +14,7 @@ use Rattle.word.specs.Decides.{decidesIn}
 use Rattle.linear.specs.Demand3.{stepOfStore, itemOf}
 
 -- X changes exactly where a store's second own step goes on. The notes are demand 2's, which say of each entry whether X changed.
-abbrev pub ChangesDecide : Calls ℕ → List Entry → List Note → Type 0
+abbrev pub ChangesDecide : Calls ℕ → List Entry → List EntryNote → Type 0
 ChangesDecide c [] ws = Unit {0}
 ChangesDecide c (e ∷ es) [] = Unit {0}
 ChangesDecide c (e ∷ es) (w ∷ ws) =

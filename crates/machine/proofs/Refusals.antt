@@ -15,7 +15,7 @@ use Rattle.machine.specs.Types.{Process, Sequence, Tag, Row, Record, Pla
 use Rattle.machine.specs.State.{rowAt, recordAt, firstState}
 use Rattle.machine.specs.Entry.{partsAfter, refused, entered, called}
 use Rattle.machine.specs.Frame.{Ready}
-use Rattle.machine.specs.Run.{Note, turnedAway, played, notes}
+use Rattle.machine.specs.Run.{EntryNote, turnedAway, played, notes}
 use Rattle.machine.proofs.Soundness.{sure}
 use Rattle.machine.proofs.Frame.{by-call, given, left}
 use Rattle.machine.proofs.Writers.{all-kept}
@@ -143,15 +143,15 @@ played-not-15 st e h = rw (played-ready st e h) (go (ltb (e .process .0) (st .n)
         entered-not-15 st (e .process) (e .kind) (omega (arith, high, last))
     go false t = λ z. omega (arith, z)
 
-notes-not-15 : (st : State) (es : List Entry) → Ready st → (w : Note) → List·Memᴰ w (notes st es) → w .outcome ≢ 15
+notes-not-15 : (st : State) (es : List Entry) → Ready st → (w : EntryNote) → List·Memᴰ w (notes st es) → w .outcome ≢ 15
 unfolding notes Not15
 notes-not-15 st [] h w m = absurd (List·Memᴰ·not-nil m)
 notes-not-15 st (e ∷ es) h w m =
     ⊎-elim
-    (λ first z. played-not-15 st e h (sym (ap (λ (v : Note). v .outcome) first) ∙ z))
+    (λ first z. played-not-15 st e h (sym (ap (λ (v : EntryNote). v .outcome) first) ∙ z))
     (λ later. notes-not-15 (played st e .state) es (ready-played st e h) w later)
     (List·Memᴰ·cases-cons m)
 
 -- "No file run meets 15."
-pub never-unsound : (n : ℕ) (s : Sequence) (v : ℕ) → inRange n s ≡ true → (es : List Entry) (w : Note) → List·Memᴰ w (notes (firstState n s v) es) → w .outcome ≢ 15
+pub never-unsound : (n : ℕ) (s : Sequence) (v : ℕ) → inRange n s ≡ true → (es : List Entry) (w : EntryNote) → List·Memᴰ w (notes (firstState n s v) es) → w .outcome ≢ 15
 never-unsound n s v e es w m = notes-not-15 (firstState n s v) es (ready-start n s v e) w m

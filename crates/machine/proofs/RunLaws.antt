@@ -11,7 +11,7 @@ use Rattle.numbers.specs.Numbers.{inRange}
 use Rattle.machine.specs.State.{rowAt, recordAt, firstState}
 use Rattle.machine.specs.Entry.{refused, entered, called}
 use Rattle.machine.specs.Frame.{Ready}
-use Rattle.machine.specs.Run.{Note, played, noteOf, after, notes, changeCount}
+use Rattle.machine.specs.Run.{EntryNote, played, noteOf, after, notes, changeCount}
 use Rattle.machine.proofs.Soundness.{sound-back, sure}
 use Rattle.machine.proofs.Frame.{full-kept, above-kept, frame}
 use Rattle.machine.proofs.SoundKept.{sound-kept, start-sound, start-full}
@@ -46,14 +46,14 @@ after-append st (e ∷ es) fs = after-append (played st e .state) es fs
 pub notes-append : (st : State) (es fs : List Entry) → notes st (es ++ fs) ≡ notes st es ++ notes (after st es) fs
 unfolding after notes
 notes-append st [] fs = refl
-notes-append st (e ∷ es) fs = ap (λ (ws : List Note). noteOf st e ∷ ws) (notes-append (played st e .state) es fs)
+notes-append st (e ∷ es) fs = ap (λ (ws : List EntryNote). noteOf st e ∷ ws) (notes-append (played st e .state) es fs)
 
 pub notes-length : (st : State) (es : List Entry) → length (notes st es) ≡ length es
 unfolding notes
 notes-length st [] = refl
 notes-length st (e ∷ es) = ap suc (notes-length (played st e .state) es)
 
-pub count-append : (vs ws : List Note) → changeCount (vs ++ ws) ≡ changeCount vs + changeCount ws
+pub count-append : (vs ws : List EntryNote) → changeCount (vs ++ ws) ≡ changeCount vs + changeCount ws
 unfolding changeCount
 count-append [] ws = omega arith
 count-append (v ∷ vs) ws = go (v .changed) (count-append vs ws)
@@ -63,7 +63,7 @@ count-append (v ∷ vs) ws = go (v .changed) (count-append vs ws)
     go true e = omega (arith, e)
     go false e = e
 
-pub count-most : (ws : List Note) → changeCount ws ≤ length ws
+pub count-most : (ws : List EntryNote) → changeCount ws ≤ length ws
 unfolding changeCount
 count-most [] = omega arith
 count-most (w ∷ ws) = go (w .changed) (count-most ws)

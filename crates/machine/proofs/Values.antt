@@ -15,7 +15,7 @@ use Rattle.step.specs.Steps.{isNear, sameTag, stepAt, stepOf, largestNext, idle
 use Rattle.machine.specs.State.{rowAt, recordAt, firstRow, firstState}
 use Rattle.machine.specs.Entry.{withParts, partsAfter, refused, entered}
 use Rattle.machine.specs.Frame.{Ready}
-use Rattle.machine.specs.Run.{Note, played, notes}
+use Rattle.machine.specs.Run.{EntryNote, played, notes}
 use Rattle.machine.proofs.Soundness.{within-sixteen}
 use Rattle.machine.proofs.Frame.{given, left}
 use Rattle.machine.proofs.Writers.{row-by, record-by}
@@ -153,7 +153,7 @@ module _ (B : ℕ) (some : 0 < B) where
 
   -- A run goes on from state to state, each small.
   notes-small : (st : State) (es : List Entry) → Ready st → Small B st → SmallEntries B es
-      → (i : ℕ) (none : Note) → i < length (notes st es) → getD (notes st es) i none .value < B
+      → (i : ℕ) (none : EntryNote) → i < length (notes st es) → getD (notes st es) i none .value < B
   unfolding notes
   notes-small st [] ready h brings i none l = absurd (omega arith)
   notes-small st (e ∷ es) ready h brings zero none l = played-small st e ready (brings .0) h .shown
@@ -161,5 +161,5 @@ module _ (B : ℕ) (some : 0 < B) where
       notes-small (played st e .state) es (ready-played st e ready) (played-small st e ready (brings .0) h .state) (brings .1) i none (omega arith)
 
 pub values-below : (B : ℕ) → 0 < B → (n : ℕ) (s : Sequence) (v : ℕ) → inRange n s ≡ true → v < B → (es : List Entry) → SmallEntries B es
-    → (i : ℕ) (none : Note) → i < length (notes (firstState n s v) es) → getD (notes (firstState n s v) es) i none .value < B
+    → (i : ℕ) (none : EntryNote) → i < length (notes (firstState n s v) es) → getD (notes (firstState n s v) es) i none .value < B
 values-below B some n s v e h es brings = notes-small B some (firstState n s v) es (ready-start n s v e) (start-small B some n s v h) brings

@@ -6,7 +6,7 @@ use lib.Dec.{leb, ltb}
 use Rattle.machine.specs.Types.{Process, Kind, Ask, Step, Request, Load, Store, Check, Record, Row, Place, Idle, Load1, Load2, Load3, Load5, Store7, Store8, Store9, Store10, Check14, State}
 use Rattle.step.specs.Steps.{isNear, sameTag, idle}
 use Rattle.machine.specs.State.{sound, rowAt, recordAt}
-use Rattle.machine.specs.Run.{Note}
+use Rattle.machine.specs.Run.{EntryNote}
 
 -- outcome, own steps, mark, value
 pub record Numbers : Type 0 where
@@ -54,5 +54,5 @@ abbrev pub numbersOf : State → Process → Kind → Numbers
 numbersOf st p kind = cond (sound st) (cond (ltb (p .0) (st .n)) (ofKind st p kind) (noSteps 11)) (noSteps 15)
 
 -- the same four of what the log says
-abbrev pub numbersIn : Note → Numbers
+abbrev pub numbersIn : EntryNote → Numbers
 numbersIn w = numbers (w .outcome) (w .steps) (w .mark) (w .value)

@@ -9,7 +9,7 @@ use Rattle.machine.specs.State.{recordAt}
 use Rattle.machine.specs.Entry.{called}
 
 -- The fields of a record of the log, and whether X changed.
-pub record Note : Type 0 where
+pub record EntryNote : Type 0 where
   pub outcome : ℕ
   pub process : ℕ
   pub steps : ℕ
@@ -36,7 +36,7 @@ stepsOf st p kind outcome = stepsBy (recordAt st (p .0) .place) kind outcome
 abbrev pub xChanged : State → State → Bool
 xChanged before after = not (sameTag (before .x) (after .x))
 
-abbrev pub noteOf : State → Entry → Note
+abbrev pub noteOf : State → Entry → EntryNote
 noteOf st e =
     let a = played st e in
     record {
@@ -53,11 +53,11 @@ unfoldable pub after : State → List Entry → State
 after st [] = st
 after st (e ∷ es) = after (played st e .state) es
 
-unfoldable pub notes : State → List Entry → List Note
+unfoldable pub notes : State → List Entry → List EntryNote
 notes st [] = []
 notes st (e ∷ es) = noteOf st e ∷ notes (played st e .state) es
 
 -- how many of the notes say that X changed
-unfoldable pub changeCount : List Note → ℕ
+unfoldable pub changeCount : List EntryNote → ℕ
 changeCount [] = 0
 changeCount (w ∷ ws) = cond (w .changed) (suc (changeCount ws)) (changeCount ws)

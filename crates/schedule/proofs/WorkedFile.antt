@@ -6,4 +6,4 @@ use Rattle.schedule.specs.WorkedFile.{workedFile, workedEntries, FullRun
 
 pub full-run : FullRun
 unfolding zerosOf checkOf firstNumber meant laterNumber blockEntries entriesTo inTurn reading workedFile workedEntries
-full-run = record { first-check = refl; later-check = refl; accepted = refl; entries = refl; refused = refl }
+full-run = record { first-check = refl; later-check = refl; accepted = refl; entries = refl; oneByteOff = refl }

@@ -41,4 +41,4 @@ pub record FullRun : Type 0 where
   pub later-check : checkOf (blockAt (workedFile 131) 1) ≡ 5426
   pub accepted : reading (workedFile 131) ≡ Accepted 2 9 7 11
   pub entries : fileEntries (workedFile 131) ≡ workedEntries
-  pub refused : reading (workedFile 132) ≡ Refused 2 0
+  pub oneByteOff : reading (workedFile 132) ≡ Refused 2 0

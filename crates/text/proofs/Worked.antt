@@ -10,4 +10,4 @@ use Rattle.text.specs.Worked.{WorkedRun}
 
 pub worked-run : WorkedRun
 unfolding headOf recordOf recordsOf logOf headIn noteIn headFound noteFound digitsOf decimalOf headLine lineOf refusedLine linesFrom textOf
-worked-run = record { whole = refl; refused = refl }
+worked-run = record { whole = refl; refusal = refl }

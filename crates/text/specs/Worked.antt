@@ -43,4 +43,4 @@ workedText =
 
 pub record WorkedRun : Type 0 where
   pub whole : textOf workedLog ≡ workedText
-  pub refused : refusedLine 2 0 ≡ bytesIn "refused 2 block 0\n"
+  pub refusal : refusedLine 2 0 ≡ bytesIn "refused 2 block 0\n"
