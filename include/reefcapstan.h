@@ -1,7 +1,7 @@
-/* The bench: plays a schedule file and writes a log of every entry.
+/* The bench: plays a schedule file and writes a log of every entry; writes schedule files from texts, and texts from schedule files.
  *
- * Link with target/staticlib/libbench.a, which `rt staticlib bench` makes. The function is pure: it keeps nothing between calls,
- * allocates nothing, and needs less than 8 KB of stack.
+ * Link with target/staticlib/libreefcapstan.a, which `rt staticlib reefcapstan` makes. The functions are pure: they keep nothing between
+ * calls, allocate nothing, and need less than 8 KB of stack.
  */
 #ifndef REEFCAPSTAN_H
 #define REEFCAPSTAN_H
@@ -16,6 +16,9 @@ extern "C" {
 /* The longest schedule file, and the log that is long enough for any file. */
 #define REEFCAPSTAN_FILE_MAX 65536
 #define REEFCAPSTAN_LOG_MAX 64020
+
+/* The longest text that the lister writes. */
+#define REEFCAPSTAN_TEXT_MAX 144055
 
 /* The log's length in bytes for a number of entries: a head of 12, and 12 for each entry. */
 #define REEFCAPSTAN_LOG_LENGTH(entries) (12u + 12u * (size_t)(entries))
@@ -38,6 +41,41 @@ extern "C" {
  * The first found is given, in the order 1; block 0 by 2, 3, 4; each later block in turn by 2, 3, 5; then 6.
  */
 uint32_t reefcapstan_run(const uint8_t *file, size_t file_len, uint8_t *log, size_t log_len);
+
+/* What the two functions below return is number + 256 * detail. */
+#define REEFCAPSTAN_NUMBER(told) ((unsigned)((told) % 256u))
+#define REEFCAPSTAN_DETAIL(told) ((uint64_t)(told) / 256u)
+
+/* Writes the schedule file of the text `text` of `text_len` bytes into `out`.
+ *
+ * Line one is `H N S V`, and each further line `L p`, `S p value`, `V p` or `T p` (a step): decimal without leading zeros, one space
+ * between fields, one newline after each line, the last too, and nothing else. Processes are 0 to 255, V and values below 2^64; N and S
+ * may have any number of digits. REEFCAPSTAN_FILE_MAX bytes are enough for any file.
+ *
+ * Returns number + 256 * detail, and writes nothing at all unless the number is 0:
+ *
+ *   0   done; the detail is the length of the file, and `out` keeps what it held past it
+ *   25  a line outside this form; the detail is the first such line, from 1 (line 1 for an empty text; from 2^56 on, 2^56 - 1)
+ *   4   N not 1 to 16, or S not 2 to 4,294,967,295
+ *   26  more than 5,334 entries
+ *   27  `out` is too short for the file
+ *
+ * The first found is given, in this order over the whole text. The buffers stay the caller's and must not overlap, and a pointer may not
+ * be NULL, not even for a length of 0.
+ */
+uint64_t reefcapstan_write(const uint8_t *text, size_t text_len, uint8_t *out, size_t out_len);
+
+/* Writes the text of the schedule file `file` of `file_len` bytes into `out`: its start and its entries in order, however they are spread
+ * over its blocks. reefcapstan_write makes a file with the same start and entries of it. REEFCAPSTAN_TEXT_MAX bytes are enough for any
+ * text.
+ *
+ * Returns number + 256 * detail, and writes nothing at all unless the number is 0:
+ *
+ *   0       done; the detail is the length of the text, and `out` keeps what it held past it
+ *   1 to 5  the file is refused, as by reefcapstan_run; the detail is the block
+ *   27      `out` is too short for the text
+ */
+uint64_t reefcapstan_list(const uint8_t *file, size_t file_len, uint8_t *out, size_t out_len);
 
 #ifdef __cplusplus
 }

@@ -1,40 +1,5 @@
 #include "reference.h"
 
-/* Numbers, low byte first. */
-
-uint32_t get16(const uint8_t *bytes)
-{
-    return (uint32_t)bytes[0] | (uint32_t)bytes[1] << 8;
-}
-
-uint32_t get32(const uint8_t *bytes)
-{
-    return get16(bytes) | get16(bytes + 2) << 16;
-}
-
-uint64_t get64(const uint8_t *bytes)
-{
-    return (uint64_t)get32(bytes) | (uint64_t)get32(bytes + 4) << 32;
-}
-
-void put16(uint8_t *bytes, uint32_t number)
-{
-    bytes[0] = (uint8_t)number;
-    bytes[1] = (uint8_t)(number >> 8);
-}
-
-void put32(uint8_t *bytes, uint32_t number)
-{
-    put16(bytes, number);
-    put16(bytes + 2, number >> 16);
-}
-
-void put64(uint8_t *bytes, uint64_t number)
-{
-    put32(bytes, (uint32_t)number);
-    put32(bytes + 4, (uint32_t)(number >> 32));
-}
-
 /* The machine. */
 
 static struct tag tag_of(uint32_t process, uint32_t number)
@@ -295,7 +260,7 @@ static uint32_t refuse(uint32_t number, size_t block)
     return number + 256 * (uint32_t)block;
 }
 
-static uint32_t read_file(const uint8_t *file, size_t file_len, size_t *entries)
+uint32_t read_file(const uint8_t *file, size_t file_len, size_t *entries)
 {
     if (file_len % BLOCK != 0 || file_len < BLOCK || file_len > (size_t)BLOCKS * BLOCK) {
         return refuse(BAD_LENGTH, 0);

@@ -2,7 +2,7 @@
 #ifndef RIG_REFERENCE_H
 #define RIG_REFERENCE_H
 
-#include "system.h"
+#include "numbers.h"
 
 enum {
     PROCESSES = 16,
@@ -82,15 +82,10 @@ void machine_start(struct machine *m, uint32_t processes, uint32_t last, uint64_
 /* Plays one entry of 12 bytes and writes its record of 12 bytes. */
 void machine_entry(struct machine *m, const uint8_t *entry, uint8_t *record);
 
-/* Numbers as the file and the log hold them, low byte first. */
-uint32_t get16(const uint8_t *bytes);
-uint32_t get32(const uint8_t *bytes);
-uint64_t get64(const uint8_t *bytes);
-void put16(uint8_t *bytes, uint32_t number);
-void put32(uint8_t *bytes, uint32_t number);
-void put64(uint8_t *bytes, uint64_t number);
-
 uint32_t block_check(const uint8_t *block);
+
+/* 0 with the entries added up, or number + 256 * block: 1 to 5 of document 01's table. */
+uint32_t read_file(const uint8_t *file, size_t file_len, size_t *entries);
 
 /* 0, or number + 256 * block. */
 uint32_t reference_run(const uint8_t *file, size_t file_len, uint8_t *log, size_t log_len);

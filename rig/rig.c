@@ -2,10 +2,12 @@
  *
  *   rig SEED COUNT            random and damaged files
  *   rig --mutate SEED COUNT   hostile input of every length
+ *   rig --texts SEED COUNT    random and damaged texts: the writer and the lister
  *   rig --speed               the two times side by side
- *   rig --selftest            document 01's own runs and lines */
+ *   rig --selftest            document 01's own runs and lines, and hand-made texts */
 #include "mutate.h"
 #include "order.h"
+#include "run_texts.h"
 #include "selftest.h"
 #include "speed.h"
 #include "tally.h"
@@ -104,7 +106,7 @@ static int run_mutate(uint64_t seed, uint64_t count)
 
 static int usage(void)
 {
-    printf("rig SEED COUNT | rig --mutate SEED COUNT | rig --speed | rig --selftest\n");
+    printf("rig SEED COUNT | rig --mutate SEED COUNT | rig --texts SEED COUNT | rig --speed | rig --selftest\n");
     return 2;
 }
 
@@ -127,6 +129,9 @@ int main(int argc, char **argv)
     }
     if (argc == 4 && strcmp(argv[1], "--mutate") == 0 && number(argv[2], &seed) && number(argv[3], &count)) {
         return run_mutate(seed, count);
+    }
+    if (argc == 4 && strcmp(argv[1], "--texts") == 0 && number(argv[2], &seed) && number(argv[3], &count)) {
+        return run_texts(seed, count);
     }
     if (argc == 3 && number(argv[1], &seed) && number(argv[2], &count)) {
         return run_files(seed, count);

@@ -2,6 +2,7 @@
 
 #include "compare.h"
 #include "order.h"
+#include "test_texts.h"
 
 /* An entry and what it comes to. */
 struct line {
@@ -71,7 +72,7 @@ enum { RUNS = sizeof runs / sizeof runs[0], RUN_E = 4, RUN_H = 7, RUN_FULL = 12 
 static size_t passed;
 static size_t failed;
 
-static bool note(const char *name, bool good)
+bool note(const char *name, bool good)
 {
     printf("  %-60s %s\n", name, good ? "ok" : "FAILED");
     passed += good;
@@ -376,6 +377,7 @@ int selftest(void)
     test_orders_found();
     test_wrong_runs();
     test_typed_histories();
+    test_texts();
     printf("  %llu files were played by both\n", (unsigned long long)files_played);
     printf("%zu passed, %zu failed\n", passed, failed);
     return failed > 0;

@@ -1,8 +1,7 @@
 #include "speed.h"
 
 #include "compare.h"
-
-enum { TIMES = 201 }; /* odd: the median is one of them */
+#include "speed_texts.h"
 
 typedef uint32_t (*run_function)(const uint8_t *, size_t, uint8_t *, size_t);
 
@@ -15,7 +14,7 @@ static struct schedule schedule;
 static uint8_t file[FILE_ROOM];
 static uint8_t log_bytes[LOG_ROOM];
 
-static double now(void)
+double now(void)
 {
     struct timespec t;
     clock_gettime(CLOCK_MONOTONIC, &t);
@@ -43,7 +42,7 @@ static double time_once(run_function run, size_t length, size_t log_len, size_t 
     return (now() - start) / (double)repeat;
 }
 
-static double median(double *times)
+double median(double *times)
 {
     qsort(times, TIMES, sizeof times[0], by_size);
     return times[TIMES / 2];
@@ -145,6 +144,7 @@ int speed(void)
     show_small();
     show_growth();
     show_reading();
+    speed_texts();
     /* The worst of the largest files. */
     printf("ratio largest %.2f\n", show_largest());
     return 0;

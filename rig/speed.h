@@ -2,6 +2,11 @@
 #ifndef RIG_SPEED_H
 #define RIG_SPEED_H
 
+enum { TIMES = 201 }; /* odd: the median is one of them */
+
+double now(void);             /* nanoseconds */
+double median(double *times); /* of TIMES; sorts them */
+
 int speed(void); /* prints; the last line is 'ratio largest X.XX'; gives the exit status */
 
 #endif

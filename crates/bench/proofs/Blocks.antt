@@ -12,15 +12,14 @@ use Rattle.bench.specs.Types.{Entry, Played}
 use Rattle.machine.specs.Frame.{Ready}
 use Rattle.machine.specs.Run.{notes, after, changeCount}
 use Rattle.machine.proofs.RunLaws.{ready-after, after-append, notes-append, notes-length, count-append, count-most}
-use Rattle.numbers.proofs.Below.{same-below}
-use Rattle.schedule.specs.File.{meant, count, entryBytes, blockEntries, blockAt, blocksAfter, entriesTo, fileEntries, reading}
+use Rattle.schedule.specs.File.{count, blockEntries, blockAt, blocksAfter, entriesTo, fileEntries, reading}
 use Rattle.schedule.specs.Direct.{isAccepted}
-use Rattle.schedule.specs.Direct.{entryAt, usedPart}
-use Rattle.schedule.proofs.Entries.{block-entry, used-length, used-entry, entries-none, entries-next, entries-more}
+use Rattle.schedule.specs.Direct.{partEntries, usedPart}
+use Rattle.schedule.proofs.Entries.{part-entries, used-length, entries-none, entries-next, entries-more}
 use Rattle.schedule.proofs.Accepted.{accepted-room}
 use Rattle.log.specs.Log.{recordsOf}
 use Rattle.log.proofs.Laws.{records-length, records-append, tail-given, tail-back}
-use Rattle.bench.specs.Play.{partEntries, playedFrom, recordsFrom}
+use Rattle.bench.specs.Play.{playedFrom, recordsFrom}
 use Rattle.bench.specs.Bench.{inLog}
 
 -- A run that goes on is one run.
@@ -51,16 +50,6 @@ records-grow from es fs rest₀ rest back at place is laid =
 
     more : 12 * (length es + length fs) ≡ 12 * length es + 12 * length fs
     more = omega arith
-
--- The entries that are read from a block's used part are the block's entries.
-pub part-entries : (b : List ℕ) → 4 + 12 * count b ≤ length b → partEntries (usedPart b) (length (usedPart b) / 12) ≡ blockEntries b
-unfolding partEntries blockEntries
-part-entries b room =
-    rw whole
-    (same-below (count b) (λ j. entryAt (usedPart b) j) (λ j. meant (entryBytes b j)) (λ j l. used-entry b room j ∙ block-entry b j l))
-  where
-    whole : length (usedPart b) / 12 ≡ count b
-    whole = rw (used-length b room) (omega arith)
 
 pub entries-fewer : (f : List ℕ) (k n : ℕ) → k ≤ n → length (entriesTo f k) ≤ length (entriesTo f n)
 entries-fewer f zero zero l = omega arith

@@ -1,4 +1,3 @@
 pub mod Turn
 pub mod Blocks
 pub mod WholeRun
-pub mod Numbers

@@ -3,12 +3,10 @@ use Prim.Native.Nat.{ℕ, _+_, _-_, _*_, _≤_, _<_}
 use mathlib.Core.Path.{_≡_, refl, sym, ap, _∙_}
 use mathlib.Core.Bool.{Bool, true, false, cond, not}
 use mathlib.Core.List.{List, [], _∷_, _++_, map, map-append}
-use native.Mathlib.Numerals.{add-one}
 use native.Mathlib.Omega.{arith}
 use lib.Dec.{ltb}
 use lib.ListN.{length, take, drop, length-append, length-drop, length-map}
 use Rattle.bench.specs.Types.{Process, Sequence, Version, Entry, Kind, Ask, Step, Stepped, Outcome, State, Answer}
-use Rattle.numbers.proofs.Below.{listed-length}
 use Rattle.step.specs.Steps.{sameTag, toldOf}
 use Rattle.machine.specs.State.{rowAt, recordAt}
 use Rattle.machine.specs.Entry.{rowGiven, withEntry}
@@ -17,21 +15,13 @@ use Rattle.machine.specs.Frame.{Ready}
 use Rattle.machine.specs.Run.{EntryNote, played, noteOf, notes, after, changeCount, stepsBy}
 use Rattle.machine.proofs.RunLaws.{ready-after, after-append, notes-append, count-append, size-kept, notes-length, count-most}
 use Rattle.machine.proofs.PartsOfRun.{seat, given, played-by-parts, seat-within, given-within}
-use Rattle.schedule.specs.Direct.{entryAt}
+use Rattle.schedule.specs.Direct.{entryAt, partEntries}
+use Rattle.schedule.proofs.Entries.{part-more, part-count}
 use Rattle.log.specs.Log.{laid, recordOf, recordsOf}
 use Rattle.log.specs.declared.Note as log
 use Rattle.log.proofs.Laws.{record-length, records-length, records-more, grown}
-use Rattle.bench.specs.Play.{recordFrom, partEntries, playedFrom, recordsFrom}
+use Rattle.bench.specs.Play.{recordFrom, playedFrom, recordsFrom}
 use Rattle.bench.specs.Bench.{inLog}
-
--- one entry more
-pub entries-more : (part : List ℕ) (j : ℕ) → partEntries part (j + 1) ≡ partEntries part j ++ (entryAt part j ∷ [])
-unfolding partEntries
-entries-more part j = rw add-one
-
-pub entries-length : (part : List ℕ) (j : ℕ) → length (partEntries part j) ≡ j
-unfolding partEntries
-entries-length part j = listed-length j (λ j. entryAt part j)
 
 -- The record that is written is the note of the run: where the process is not there, no steps are counted whatever the place.
 module _ (st : State) (e : Entry) (h : Ready st) where
@@ -98,14 +88,14 @@ module _ (part : List ℕ) (st₀ : State) (j : ℕ) where
 
   after-more : after st₀ (partEntries part (j + 1)) ≡ played (after st₀ es) next .state
   unfolding after
-  after-more = rw (entries-more part j) (after-append st₀ es (next ∷ []))
+  after-more = rw (part-more part j) (after-append st₀ es (next ∷ []))
 
   notes-more : notes st₀ (partEntries part (j + 1)) ≡ notes st₀ es ++ (noteOf (after st₀ es) next ∷ [])
   unfolding notes
-  notes-more = rw (entries-more part j) (notes-append st₀ es (next ∷ []))
+  notes-more = rw (part-more part j) (notes-append st₀ es (next ∷ []))
 
   pub records-so-far : length (recordsOf (map inLog (notes st₀ es))) ≡ 12 * j
-  records-so-far = rw (records-length, length-map, notes-length, entries-length)
+  records-so-far = rw (records-length, length-map, notes-length, part-count)
 
 module _ {part rest₀ : List ℕ} {n : ℕ} {s : Sequence} {end : ℕ} {st₀ : State} {changes₀ : Version} {rest : List ℕ} {st : State} {changes : Version} {j : ℕ}
     (h : Turn part rest₀ n s end st₀ changes₀ rest st changes j) where
@@ -183,7 +173,7 @@ module _ {part rest₀ : List ℕ} {n : ℕ} {s : Sequence} {end : ℕ} {st₀ :
   count-low l =
       let most = count-most (notes st₀ (partEntries part j)) in
       let long = notes-length st₀ (partEntries part j) in
-      let short = entries-length part j in
+      let short = part-count part j in
       omega (arith, most, long, short, h .count, h .few, l)
 
   -- the log is as long as it was lent
@@ -195,7 +185,7 @@ module _ {part rest₀ : List ℕ} {n : ℕ} {s : Sequence} {end : ℕ} {st₀ :
       → (record { state = st; changes = changes } ≡ playedFrom (record { state = st₀; changes = changes₀ }) (partEntries part end))
       × (rest ≡ recordsFrom (record { state = st₀; changes = changes₀ }) (partEntries part end) rest₀)
   unfolding playedFrom recordsFrom
-  turn-end l = (played-is, rw (entries-length part end, ← top) (h .log))
+  turn-end l = (played-is, rw (part-count part end, ← top) (h .log))
     where
       top : j ≡ end
       top = omega (arith, h .within, l)

@@ -1,5 +1,5 @@
 -- The whole run of a file with a lent log: what is returned, and what every byte of the log then is.
-use Prim.Native.Nat.{ℕ, _+_, _*_}
+use Prim.Native.Nat.{ℕ, _+_}
 use mathlib.Core.Bool.{cond}
 use mathlib.Core.List.{List, _++_, map}
 use lib.Dec.{leb}
@@ -51,7 +51,3 @@ ranOf f log = ranBy f log (reading f)
 
 unfoldable pub logAfter : List ℕ → List ℕ → List ℕ
 logAfter f log = logBy f log (reading f)
-
--- "it gets 0, or number + 256 times block"
-abbrev pub cNumber : List ℕ → List ℕ → ℕ
-cNumber f log = ranOf f log .number + 256 * ranOf f log .block

@@ -2,12 +2,10 @@
 use Prim.Native.Nat.{ℕ, _+_, _*_}
 use mathlib.Core.List.{List, _++_, map}
 use lib.ListN.{length, drop}
-use Rattle.numbers.specs.Numbers.{listBelow}
 use Rattle.step.specs.Steps.{toldOf}
 use Rattle.bench.specs.Bench.{inLog}
 use Rattle.bench.specs.Types.{Entry, Kind, Place, Outcome, Note, Played}
 use Rattle.machine.specs.Run.{stepsBy, notes, after, changeCount}
-use Rattle.schedule.specs.Direct.{entryAt}
 use Rattle.log.specs.Log.{recordsOf}
 
 -- the record of an entry of process p, from the place before it and its outcome
@@ -20,10 +18,6 @@ recordFrom p kind place outcome =
       mark = toldOf outcome .mark;
       value = toldOf outcome .value;
     }
-
--- the first n entries that stand in a part of twelve bytes each
-unfoldable pub partEntries : List ℕ → ℕ → List Entry
-partEntries part n = listBelow n (λ j. entryAt part j)
 
 unfoldable pub playedFrom : Played → List Entry → Played
 playedFrom from es =

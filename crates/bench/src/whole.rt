@@ -7,7 +7,7 @@ ghost use Rattle.schedule.specs.File.{reading, fileEntries};
 ghost use Rattle.schedule.specs.Direct.{isAccepted};
 ghost use Rattle.machine.specs.Frame.{Ready};
 ghost use Rattle.bench.specs.Play.{playedFrom, recordsFrom};
-ghost use Rattle.bench.specs.Bench.{ranNot, notesOf, lastState, written, ranBy, logBy, ranOf, logAfter, cNumber};
+ghost use Rattle.bench.specs.Bench.{ranNot, notesOf, lastState, written, ranBy, logBy, ranOf, logAfter};
 use crate::Played;
 use crate::Ran;
 use crate::part::play_part;
@@ -105,16 +105,4 @@ pub fn run(file: &[u8], log: &mut [u8]) -> Ran
         Reading::Refused { number, block } => turn_away(number, block),
         Reading::Accepted { n, s, v, entries } => run_accepted(file, log, n, s, v, entries),
     }
-}
-
-// What the receiver's C test rig calls: 0, or number + 256 times block.
-#[no_mangle]
-pub extern "C" fn reefcapstan_run(file: &[u8], log: &mut [u8]) -> u32
-    ensures { λ r. ⌜ (r ≡ cNumber (now (file .entry)) (now (log .entry))) × (now (log .exit) ≡ logAfter (now (file .entry)) (now (log .entry))) ⌝ }
-{
-    let ran = run(file, log);
-    let number = ran.number;
-    let block = ran.block;
-    let all = number + 256 * block;
-    all as u32
 }

@@ -1,7 +1,7 @@
 // Document 01's "By program" lines, run through the proved run. What this program prints is held to the file stdout beside it.
 ghost use Prim.Native.Nat.{_+_, _*_, _≤_};
 ghost use lib.ListN.{length};
-use bench::whole::reefcapstan_run;
+use bench::whole::run;
 use libc::STDOUT_FILENO;
 use schedule::check_of;
 
@@ -55,14 +55,18 @@ fn show_line(log: &[u8], place: u32) {
 
 // Plays a file and prints what came of it behind its name.
 fn try_file(name: &[u8], file: &[u8], log: &mut [u8]) {
-    let told = reefcapstan_run(file, log);
+    let ran = run(file, log);
+    let number = ran.number;
+    let block = ran.block;
     let mut out = [0u8; 128];
     io::write_all(STDOUT_FILENO, name);
-    if told == 0 {
+    if number == 0 {
         let n = text::line::write_head_of(&mut out, log);
         show(&out, n);
     } else {
-        let n = text::line::write_refused_line(&mut out, told % 256, told / 256);
+        let first = (number % 4294967296) as u32;
+        let second = (block % 4294967296) as u32;
+        let n = text::line::write_refused_line(&mut out, first, second);
         show(&out, n);
     }
 }

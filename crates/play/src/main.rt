@@ -1,6 +1,6 @@
 // Plays a schedule file: standard input to standard output. Everything that is printed comes from proved functions on byte
 // slices (bench: the run, text: the lines); this program only moves bytes.
-use bench::whole::reefcapstan_run;
+use bench::whole::run;
 use libc::STDERR_FILENO;
 use libc::STDIN_FILENO;
 use libc::STDOUT_FILENO;
@@ -71,16 +71,15 @@ fn show_log(log: &[u8]) -> bool {
     }
 }
 
-// The C number of a run is its number and, 256 to each, its block.
 fn play(file: &[u8]) -> bool {
     let mut log = [0u8; 64020];
-    let told = reefcapstan_run(file, &mut log);
-    if told == 0 {
+    let ran = run(file, &mut log);
+    let number = ran.number;
+    let block = ran.block;
+    if number == 0 {
         show_log(&log)
     } else {
-        let number = told % 256;
-        let block = told / 256;
-        show_refusal(number, block)
+        show_refusal((number % 4294967296) as u32, (block % 4294967296) as u32)
     }
 }
 

@@ -4,7 +4,6 @@ use Rattle.promises.specs.Determined.{Determined}
 use Rattle.promises.proofs.Same.{same-result, same-both}
 use Rattle.bench.proofs.note.note_of
 use Rattle.bench.proofs.whole.run
-use Rattle.bench.proofs.whole.reefcapstan_run
 
 module _ {M : Type 1} where
   pub note-of-determined : Determined M note_of.ended note_of.clauses note_of.spec
@@ -12,6 +11,3 @@ module _ {M : Type 1} where
 
   pub run-determined : Determined M run.ended run.clauses run.spec
   run-determined = (λ 𝓤 H A mem run. refl, λ κs a k l. same-both k l (λ v. (k .last .0, (v, k .last .1 .1))) (k .met) (l .met))
-
-  pub reefcapstan-run-determined : Determined M reefcapstan_run.ended reefcapstan_run.clauses reefcapstan_run.spec
-  reefcapstan-run-determined = (λ 𝓤 H A mem run. refl, λ κs a k l. same-both k l (λ v. (k .last .0, (v, k .last .1 .1))) (k .met) (l .met))

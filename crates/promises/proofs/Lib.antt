@@ -6,3 +6,6 @@ pub mod Schedule
 pub mod Log
 pub mod Text
 pub mod Bench
+pub mod Writer
+pub mod Lister
+pub mod Reefcapstan

@@ -3,7 +3,7 @@
 use mathlib.Core.Path.{_≡_, refl, sym, ap, _∙_}
 use mathlib.Core.Bool.{Bool, true, false, cond}
 use mathlib.Core.List.{List, [], _∷_, _++_}
-use Prim.Native.Nat.{ℕ, zero, suc, _+_, _-_, _*_, _≤_, _<_}
+use Prim.Native.Nat.{ℕ, zero, suc, _+_, _-_, _*_, _/_, _≤_, _<_}
 use native.Mathlib.Nat.{add-zero}
 use native.Mathlib.Decide.{decLt}
 use native.Mathlib.Numerals.{add-one}
@@ -12,9 +12,9 @@ use borrow.Author.Tests.{le-leb, lt-leb, leb-true}
 use lib.ListN.{length, getD, take, drop, length-append, List·getD-append, List·getD-eq-default}
 use lib.Seq.{take-take, drop-drop, getD-append-add}
 use lib.Dec.{eqb, leb}
-use Rattle.numbers.proofs.Below.{listed-length, listed-at}
+use Rattle.numbers.proofs.Below.{listed-length, listed-at, same-below}
 use Rattle.schedule.specs.File.{count, entryBytes, noEntry, meant, laterNumber, blockEntries, blockAt, entriesTo}
-use Rattle.schedule.specs.Direct.{usedPart, acceptedPart, entryAt}
+use Rattle.schedule.specs.Direct.{usedPart, acceptedPart, entryAt, partEntries}
 use Rattle.schedule.proofs.Laws.{part-length}
 
 -- a part of a part is a part of the whole
@@ -102,6 +102,24 @@ entry-bytes f k j h =
 
 pub part-bytes : (f : List ℕ) (k n : ℕ) → 4 + n ≤ 512 → take n (drop 4 (blockAt f k)) ≡ take n (drop (512 * k + 4) f)
 part-bytes f k n h = part-of-part (drop (512 * k) f) 4 n 512 h ∙ ap (take n) (drop-drop 4 (512 * k) f)
+
+-- The entries that stand in a part: one more, how many, and of a block's used part the block's.
+pub part-more : (part : List ℕ) (j : ℕ) → partEntries part (j + 1) ≡ partEntries part j ++ (entryAt part j ∷ [])
+unfolding partEntries
+part-more part j = rw add-one
+
+pub part-count : (part : List ℕ) (j : ℕ) → length (partEntries part j) ≡ j
+unfolding partEntries
+part-count part j = listed-length j (λ j. entryAt part j)
+
+pub part-entries : (b : List ℕ) → 4 + 12 * count b ≤ length b → partEntries (usedPart b) (length (usedPart b) / 12) ≡ blockEntries b
+unfolding partEntries blockEntries
+part-entries b room =
+    rw whole
+    (same-below (count b) (λ j. entryAt (usedPart b) j) (λ j. meant (entryBytes b j)) (λ j l. used-entry b room j ∙ block-entry b j l))
+  where
+    whole : length (usedPart b) / 12 ≡ count b
+    whole = rw (used-length b room) (omega arith)
 
 -- a part that is handed back lies within the block, from byte 4 on, whatever the block is
 abbrev pub Inside : List ℕ → List ℕ → Type 0

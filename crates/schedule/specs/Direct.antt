@@ -4,6 +4,7 @@ use mathlib.Core.Bool.{Bool, true, false, cond}
 use mathlib.Core.List.{List, []}
 use lib.ListN.{length, take, drop}
 use lib.Dec.{eqb, leb}
+use Rattle.numbers.specs.Numbers.{listBelow}
 use Rattle.schedule.specs.Types.{Reading, Refused, Accepted, FirstBlock, FirstRefused, Start, Entry, Block, BlockRefused, Entries}
 use Rattle.schedule.specs.File.{startN, startS, startV, firstNumber, count, laterNumber, noEntry, meant}
 
@@ -33,6 +34,10 @@ acceptedPart b k = cond (eqb (length b) 512) (cond (eqb (laterNumber b k) 0) (us
 -- entry j of such a part: twelve bytes from place 12j on
 unfoldable pub entryAt : List ℕ → ℕ → Entry
 entryAt p j = cond (leb (12 * j + 12) (length p)) (meant (take 12 (drop (12 * j) p))) noEntry
+
+-- the first n entries that stand in such a part
+unfoldable pub partEntries : List ℕ → ℕ → List Entry
+partEntries part n = listBelow n (λ j. entryAt part j)
 
 -- whether a reading is of an accepted file
 abbrev pub isAccepted : Reading → Bool

@@ -1,11 +1,14 @@
 -- 128 bytes have room for every line, whatever its numbers are.
 -- Assumes nothing.
 use Prim.Native.Nat.{ℕ, _≤_}
+use mathlib.Core.Bool.{Bool, true, false, cond}
+use mathlib.Core.List.{_++_}
 use native.Mathlib.Omega.{arith}
+use lib.Dec.{eqb}
 use lib.ListN.{length, length-append}
 use Rattle.text.specs.Types.{Note}
 use Rattle.text.specs.Decimal.{decimalOf}
-use Rattle.text.specs.Lines.{headLine, lineOf, refusedLine}
+use Rattle.text.specs.Lines.{bytesIn, field, space, newline, headLine, lineOf, refusedLine, refusedTextLine}
 use Rattle.text.proofs.Digits.{decimal-length}
 
 pub number-fits : (n : ℕ) → length (decimalOf n) ≤ 128
@@ -33,3 +36,11 @@ line-fits place note =
 pub refused-line-fits : (number block : ℕ) → length (refusedLine number block) ≤ 128
 unfolding refusedLine
 refused-line-fits number block = simp length-append (omega (arith, decimal-length number, decimal-length block))
+
+pub refused-text-line-fits : (number line : ℕ) → length (refusedTextLine number line) ≤ 128
+unfolding refusedTextLine
+refused-text-line-fits number line = go (eqb number 25)
+  where
+    go : (t : Bool) → length (bytesIn "refused " ++ cond t (field number space ++ (bytesIn "line " ++ field line newline)) (field number newline)) ≤ 128
+    go true = simp length-append (omega (arith, decimal-length number, decimal-length line))
+    go false = simp length-append (omega (arith, decimal-length number))

@@ -3,7 +3,7 @@
 use Prim.Native.Nat.{ℕ, suc, _+_, _≤_, _<_}
 use mathlib.Core.Path.{_≡_, refl, ap, _∙_}
 use mathlib.Core.Bool.{Bool, true, false, cond}
-use mathlib.Core.List.{List, [], _∷_, _++_}
+use mathlib.Core.List.{List, [], _∷_, _++_, append-assoc}
 use native.Mathlib.Nat.{add-zero, zero-add, add-assoc}
 use native.Mathlib.Numerals.{add-one}
 use native.Mathlib.Omega.{arith}
@@ -11,9 +11,9 @@ use borrow.Author.Tests.{le-leb, lt-leb}
 use lib.Dec.{leb}
 use lib.ListN.{length, getD, take, drop, set, length-append}
 use lib.Seq.{sets, sets-eq, length-sets, take-suc, take-length}
-use Rattle.text.specs.Lines.{printed, printedCount}
+use Rattle.text.specs.Lines.{printed, printedCount, storedAt, storedEnd}
 
-sets-more : (first then out : List ℕ) (at : ℕ) → sets (sets out at first) (at + length first) then ≡ sets out at (first ++ then)
+pub sets-more : (first then out : List ℕ) (at : ℕ) → sets (sets out at first) (at + length first) then ≡ sets out at (first ++ then)
 sets-more [] then out at = rw (add-zero at)
 sets-more (b ∷ first) then out at =
     let e : at + suc (length first) ≡ suc at + length first = omega arith in
@@ -83,3 +83,12 @@ nothing-printed out = go (leb 128 (length out))
     go : (t : Bool) → (0 ≡ cond t (length {A = ℕ} []) 0) × (out ≡ cond t ([] ++ drop (length {A = ℕ} []) out) out)
     go true = (refl, refl)
     go false = (refl, refl)
+
+-- a text at a place: there is room for it, or there is not
+pub stored-fits : {text before after : List ℕ} {at next : ℕ} → at + length text ≤ length before → Put text before at after next
+    → (next ≡ storedEnd at text before) × (after ≡ storedAt at text before)
+stored-fits {text} {before} {at = at} h p = rw (le-leb (at + length text) (length before) h) (p .place, p .bytes ∙ sets-eq text before at h ∙ append-assoc (take at before) text (drop (at + length text) before))
+
+pub stored-short : (text before : List ℕ) (at : ℕ) → length before < at + length text
+    → (at ≡ storedEnd at text before) × (before ≡ storedAt at text before)
+stored-short text before at h = rw (lt-leb (at + length text) (length before) h) (refl, refl)

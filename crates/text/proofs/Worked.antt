@@ -5,9 +5,9 @@ use Rattle.log.specs.Log.{headOf, recordOf, recordsOf, headIn, noteIn}
 use Rattle.log.specs.Found.{logOf}
 use Rattle.log.specs.Found.{headFound, noteFound}
 use Rattle.text.specs.Decimal.{digitsOf, decimalOf}
-use Rattle.text.specs.Lines.{headLine, lineOf, refusedLine, linesFrom, textOf}
+use Rattle.text.specs.Lines.{headLine, lineOf, refusedLine, refusedTextLine, linesFrom, textOf}
 use Rattle.text.specs.Worked.{WorkedRun}
 
 pub worked-run : WorkedRun
-unfolding headOf recordOf recordsOf logOf headIn noteIn headFound noteFound digitsOf decimalOf headLine lineOf refusedLine linesFrom textOf
-worked-run = record { whole = refl; refusal = refl }
+unfolding headOf recordOf recordsOf logOf headIn noteIn headFound noteFound digitsOf decimalOf headLine lineOf refusedLine refusedTextLine linesFrom textOf
+worked-run = record { whole = refl; refusal = refl; textRefusal = refl; lineless = refl }

@@ -5,8 +5,8 @@ use Prim.Native.String.{String}
 use Prim.Native.String as string
 use mathlib.Core.Bool.{cond}
 use mathlib.Core.List.{List, [], _∷_, _++_}
-use lib.Dec.{leb}
-use lib.ListN.{length, drop}
+use lib.Dec.{eqb, leb}
+use lib.ListN.{length, take, drop}
 use Rattle.log.specs.Found.{headFound, noteFound}
 use Rattle.text.specs.Types.{HeadFound, Laid, NoHead, Note, NoteFound, Written, NoNote}
 use Rattle.text.specs.Decimal.{decimalOf}
@@ -42,6 +42,12 @@ lineOf place note =
 unfoldable pub refusedLine : ℕ → ℕ → List ℕ
 refusedLine number block = bytesIn "refused " ++ (field number space ++ (bytesIn "block " ++ field block newline))
 
+-- A refused text prints `refused 25 line 3`; the other refusals of a text have no line, as `refused 4`.
+unfoldable pub refusedTextLine : ℕ → ℕ → List ℕ
+refusedTextLine number line =
+    bytesIn "refused "
+    ++ cond (eqb number 25) (field number space ++ (bytesIn "line " ++ field line newline)) (field number newline)
+
 -- What is left of a lent part in which a text is printed, and how many bytes were: a part of 128 bytes has room for every line,
 -- and a shorter one stays as it was.
 abbrev pub printed : List ℕ → List ℕ → List ℕ
@@ -49,6 +55,13 @@ printed text out = cond (leb 128 (length out)) (text ++ drop (length text) out) 
 
 abbrev pub printedCount : List ℕ → List ℕ → ℕ
 printedCount text out = cond (leb 128 (length out)) (length text) 0
+
+-- A text from a place of a lent part on, and the place behind it; where it does not fit, the part and the place stay as they were.
+abbrev pub storedAt : ℕ → List ℕ → List ℕ → List ℕ
+storedAt at text out = cond (leb (at + length text) (length out)) (take at out ++ (text ++ drop (at + length text) out)) out
+
+abbrev pub storedEnd : ℕ → List ℕ → List ℕ → ℕ
+storedEnd at text out = cond (leb (at + length text) (length out)) (at + length text) at
 
 -- the same lines from the bytes of a log; where the log is too short for what is asked, no text
 abbrev pub headText : HeadFound → List ℕ

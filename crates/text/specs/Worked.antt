@@ -4,7 +4,7 @@ use mathlib.Core.Path.{_≡_}
 use mathlib.Core.List.{List, [], _∷_, _++_}
 use Rattle.log.specs.Found.{logOf}
 use Rattle.text.specs.Types.{Note}
-use Rattle.text.specs.Lines.{bytesIn, textOf, refusedLine}
+use Rattle.text.specs.Lines.{bytesIn, textOf, refusedLine, refusedTextLine}
 
 -- process, outcome, steps, mark, value
 abbrev pub entry : ℕ → ℕ → ℕ → ℕ → ℕ → Note
@@ -44,3 +44,5 @@ workedText =
 pub record WorkedRun : Type 0 where
   pub whole : textOf workedLog ≡ workedText
   pub refusal : refusedLine 2 0 ≡ bytesIn "refused 2 block 0\n"
+  pub textRefusal : refusedTextLine 25 3 ≡ bytesIn "refused 25 line 3\n"
+  pub lineless : refusedTextLine 4 0 ≡ bytesIn "refused 4\n"

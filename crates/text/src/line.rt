@@ -6,7 +6,7 @@ ghost use lib.ListN.{length};
 ghost use lib.Seq.{sets};
 ghost use Rattle.log.specs.Found.{headFound, noteFound};
 ghost use Rattle.text.specs.Decimal.{decimalOf};
-ghost use Rattle.text.specs.Lines.{headLine, lineOf, refusedLine, headText, lineText, printed, printedCount};
+ghost use Rattle.text.specs.Lines.{headLine, lineOf, refusedLine, refusedTextLine, headText, lineText, printed, printedCount};
 use crate::put::put_field;
 use crate::put::put_number;
 use crate::put::put_word;
@@ -58,6 +58,19 @@ fn put_refused_line(out: &mut [u8], number: u32, block: u32) -> usize
     put_field(out, c, block as u64, b'\n')
 }
 
+fn put_refused_text_line(out: &mut [u8], number: u32, line: u64) -> usize
+    requires { ⌜ 128 ≤ length (now out) ⌝ }
+    ensures { λ r. ⌜ (r ≡ length (refusedTextLine number line)) × (now (out .exit) ≡ sets (now (out .entry)) 0 (refusedTextLine number line)) ⌝ }
+{
+    let a = put_word(out, 0, b"refused ");
+    if number == 25 {
+        let b = put_field(out, a, number as u64, b' ');
+        let c = put_word(out, b, b"line ");
+        return put_field(out, c, line, b'\n');
+    }
+    put_field(out, a, number as u64, b'\n')
+}
+
 // A number in decimal.
 pub fn write_number(out: &mut [u8], n: u64) -> usize
     ensures { λ r. ⌜ (r ≡ printedCount (decimalOf n) (now (out .entry))) × (now (out .exit) ≡ printed (decimalOf n) (now (out .entry))) ⌝ }
@@ -97,6 +110,17 @@ pub fn write_refused_line(out: &mut [u8], number: u32, block: u32) -> usize
 {
     if ROOM <= out.len() {
         put_refused_line(out, number, block)
+    } else {
+        0
+    }
+}
+
+pub fn write_refused_text_line(out: &mut [u8], number: u32, line: u64) -> usize
+    ensures { λ r. ⌜ (r ≡ printedCount (refusedTextLine number line) (now (out .entry)))
+        × (now (out .exit) ≡ printed (refusedTextLine number line) (now (out .entry))) ⌝ }
+{
+    if ROOM <= out.len() {
+        put_refused_text_line(out, number, line)
     } else {
         0
     }

@@ -7,7 +7,7 @@ ghost use lib.Seq.{sets};
 ghost use Rattle.text.specs.Decimal.{decimalOf};
 ghost use Rattle.text.specs.Lines.{field};
 
-fn put_byte(out: &mut [u8], at: usize, b: u8) -> usize
+pub(crate) fn put_byte(out: &mut [u8], at: usize, b: u8) -> usize
     requires { ⌜ at < length (now out) ⌝ }
     ensures { λ r. ⌜ (r ≡ at + length (b ∷ [])) × (now (out .exit) ≡ sets (now (out .entry)) at (b ∷ [])) ⌝ }
 {

@@ -3,9 +3,9 @@
 use borrow.Author.Needs.{needs}
 use denote.Ref.{now}
 use native.Mathlib.Omega.{arith}
-use Rattle.bench.proofs.Numbers.{small}
-use Rattle.bench.proofs.whole.reefcapstan_run.Statement.{statement}
-use Rattle.bench.proofs.whole.reefcapstan_run.Tie as tie
+use Rattle.reefcapstan.proofs.Numbers.{small}
+use Rattle.reefcapstan.proofs.reefcapstan_run.Statement.{statement}
+use Rattle.reefcapstan.proofs.reefcapstan_run.Tie as tie
 
 run-requires : tie.Need-run-requires
 run-requires c κs = search needs

@@ -1,18 +1,17 @@
--- The number and the block that a run returns are small: together they fit the C number.
-use Prim.Native.Nat.{ℕ, zero, suc, _+_, _-_, _≤_}
+-- The number and the block of a refused file are small.
+-- Assumes nothing.
+use Prim.Native.Nat.{ℕ, zero, suc, _+_, _≤_}
 use mathlib.Core.Path.{_≡_, refl}
 use mathlib.Core.Bool.{Bool, true, false, cond, not}
 use mathlib.Core.List.{List}
 use native.Mathlib.Omega.{arith}
-use lib.Dec.{leb, eqb}
+use lib.Dec.{eqb}
 use lib.ListN.{length}
 use Rattle.schedule.specs.File.{checkFine, placeFine, firstFine, firstNumber, laterFine, laterNumber, lengthFine, blockAt, blocksAfter, found, inTurn, acceptedAs, reading}
-use Rattle.bench.specs.Types.{Reading, Refused, Accepted, Ran}
+use Rattle.schedule.specs.Types.{Reading, Refused, Accepted}
 use Rattle.schedule.proofs.Accepted.{length-blocks}
-use Rattle.log.specs.Log.{logLength}
-use Rattle.bench.specs.Bench.{ranBy, ranOf, lastState, ranNot}
 
-abbrev Low : Reading → Type 0
+abbrev pub Low : Reading → Type 0
 Low (Refused n k) = (n ≤ 5) × (k ≤ 127)
 Low (Accepted n s v c) = Unit {0}
 
@@ -37,7 +36,7 @@ turn-low f k (suc n) rest l low =
     found-low (laterNumber b k) k (inTurn f (k + 1) n rest) (number-low (checkFine b) (placeFine b k) (laterFine b) 5 (omega arith)) (omega arith)
     (turn-low f (k + 1) n rest (omega arith) low)
 
-reading-low : (f : List ℕ) → Low (reading f)
+pub reading-low : (f : List ℕ) → Low (reading f)
 unfolding reading firstNumber
 reading-low f = go (lengthFine (length f)) refl
   where
@@ -51,20 +50,3 @@ reading-low f = go (lengthFine (length f)) refl
         (number-low (checkFine b) (placeFine b 0) (firstFine b (blocksAfter f)) 4 (omega arith)) (omega arith)
         (turn-low f 1 (blocksAfter f) (acceptedAs f) (omega (arith, length-blocks (length f) e .1)) tt)
     go false e = (omega arith, omega arith)
-
-pub ran-low : (f log : List ℕ) → (ranOf f log .number ≤ 6) × (ranOf f log .block ≤ 127)
-unfolding ranOf
-ran-low f log = by (reading f) (reading-low f)
-  where
-    room : (c : ℕ) (r : Ran) → (r .number ≤ 6) × (r .block ≤ 127) → (b : Bool) → (cond b r (ranNot 6 0) .number ≤ 6) × (cond b r (ranNot 6 0) .block ≤ 127)
-    room c r h true = h
-    room c r h false = (omega arith, omega arith)
-
-    by : (r : Reading) → Low r → (ranBy f log r .number ≤ 6) × (ranBy f log r .block ≤ 127)
-    by (Refused n k) low = (omega (arith, low .0), low .1)
-    by (Accepted n s v c) low =
-        room c (record { number = 0; block = 0; state = lastState f n s v }) (omega arith, omega arith) (leb (logLength c) (length log))
-
--- the same of a result that meets the run's promise
-pub small : (f log : List ℕ) (r : Ran) → r ≡ ranOf f log → (r .number ≤ 6) × (r .block ≤ 127)
-small f log r e = rw e (ran-low f log)

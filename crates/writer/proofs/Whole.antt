@@ -1,0 +1,107 @@
+-- A whole text: where its first line outside the form stands, and what it comes to where there is none.
+-- Assumes nothing.
+use Prim.Native.Nat.{ℕ, _+_, _≤_, _<_}
+use mathlib.Core.Path.{_≡_, refl}
+use mathlib.Core.Bool.{Bool, true, false, cond, not}
+use mathlib.Core.List.{List}
+use native.Mathlib.Decide.{decLt}
+use native.Mathlib.Omega.{arith}
+use borrow.Author.Tests.{le-leb, lt-leb, lt-ltb, le-ltb, ne-eqb}
+use lib.Dec.{eqb, leb, ltb}
+use lib.ListN.{length}
+use Rattle.numbers.specs.Numbers.{inRange}
+use Rattle.text.specs.Decimal.{said}
+use Rattle.text.specs.Lines.{newline}
+use Rattle.writer.specs.Types.{Opening, Scanned}
+use Rattle.writer.specs.Form.{placeOf, headFine, fieldN, fieldS, fieldV, lineOne, further, firstOutside, outside, textN, textS, textV, textEntries}
+use Rattle.writer.specs.Writer.{textNumber}
+use Rattle.writer.specs.Parts.{noStart, openingOf, passedOver, judged, within, scannedOf}
+
+-- whether line one is in the form
+pub opening-fine : (line : List ℕ) → openingOf line .fine ≡ headFine line
+unfolding openingOf
+opening-fine line = go (headFine line) (inRange (said (fieldN line)) (record { 0 = said (fieldS line) }))
+  where
+    go : (t u : Bool)
+        → (cond t (cond u (record { fine = true; ranged = true; n = said (fieldN line); s = said (fieldS line); v = said (fieldV line) })
+        (record { fine = true; ranged = false; n = 0; s = 0; v = 0 })) noStart) .fine ≡ t
+    go false u = refl
+    go true false = refl
+    go true true = refl
+
+module _ (text : List ℕ) where
+  pub outside-none : length text ≤ placeOf newline text → outside text ≡ 1
+  unfolding outside
+  outside-none h = rw (le-leb (length text) (placeOf newline text) h)
+
+  pub outside-head : headFine (lineOne text) ≡ false → outside text ≡ 1
+  unfolding outside
+  outside-head h = rw h (go (leb (length text) (placeOf newline text)))
+    where
+      go : (t : Bool) → _≡_ {A = ℕ} (cond t 1 1) 1
+      go true = refl
+      go false = refl
+
+  pub outside-further : placeOf newline text < length text → headFine (lineOne text) ≡ true → outside text ≡ firstOutside 2 (further text)
+  unfolding outside
+  outside-further h k = rw (lt-leb (length text) (placeOf newline text) h, k)
+
+  -- a text with no line outside the form has its first newline
+  pub newline-there : outside text ≡ 0 → placeOf newline text < length text
+  newline-there e = go (decLt (placeOf newline text) (length text))
+    where
+      go : Dec (placeOf newline text < length text) → placeOf newline text < length text
+      go (yes l) = l
+      go (no g) =
+          let one : outside text ≡ 1 = outside-none (omega (arith, g)) in
+          absurd (omega (arith, e, one))
+
+  pub scanned-outside : (line : ℕ) → outside text ≡ line → (line ≡ 0 → ⊥) → scannedOf text ≡ passedOver 25 line
+  unfolding scannedOf textNumber
+  scanned-outside line e h = rw (e, ne-eqb line 0 h)
+
+  pub scanned-judged : outside text ≡ 0 → headFine (lineOne text) ≡ true
+      → scannedOf text ≡ judged (openingOf (lineOne text)) (placeOf newline text + 1) (length (textEntries text))
+  unfolding scannedOf textNumber judged openingOf
+  scanned-judged e h =
+      rw (e, h) (go (inRange (textN text) (record { 0 = textS text })) (decLt 5334 (length (textEntries text))))
+    where
+      count : ℕ
+      count = length (textEntries text)
+
+      start : Bool → Opening
+      start t =
+          cond t (record { fine = true; ranged = true; n = textN text; s = textS text; v = textV text })
+          (record { fine = true; ranged = false; n = 0; s = 0; v = 0 })
+
+      go : (t : Bool) → Dec (5334 < count)
+          → cond (eqb (cond (not t) 4 (cond (not (leb count 5334)) 26 0)) 0) (within text) (passedOver (cond (not t) 4 (cond (not (leb count 5334)) 26 0)) 0)
+          ≡ cond (start t .ranged)
+          (cond (ltb 5334 count) (passedOver 26 0)
+          (record { number = 0; line = 0; from = placeOf newline text + 1; entries = count; n = start t .n; s = start t .s; v = start t .v }))
+          (passedOver 4 0)
+      go false d = refl
+      go true (yes l) = rw (lt-leb count 5334 l, lt-ltb 5334 count l)
+      go true (no g) = rw (le-leb count 5334 (omega (arith, g)), le-ltb 5334 count (omega (arith, g)))
+
+  -- what a scan says, by the number that refuses the text
+  pub scanned-number : scannedOf text .number ≡ textNumber text
+  unfolding scannedOf
+  scanned-number = go (textNumber text) (decLt 0 (textNumber text))
+    where
+      which : ℕ → Scanned
+      which n = cond (eqb n 0) (within text) (passedOver n (outside text))
+
+      go : (n : ℕ) → Dec (0 < n) → which n .number ≡ n
+      go n (yes h) = rw (ne-eqb n 0 (λ q. omega (arith, h, q)))
+      go n (no h) =
+          let z : n ≡ 0 = omega (arith, h) in
+          rw z
+
+  pub scanned-refused : (textNumber text ≡ 0 → ⊥) → scannedOf text ≡ passedOver (textNumber text) (outside text)
+  unfolding scannedOf
+  scanned-refused h = rw (ne-eqb (textNumber text) 0 h)
+
+  pub scanned-accepted : textNumber text ≡ 0 → scannedOf text ≡ within text
+  unfolding scannedOf
+  scanned-accepted h = rw h
