@@ -60,6 +60,8 @@ uint32_t reefcapstan_run(const uint8_t *file, size_t file_len, uint8_t *log, siz
  *   26  more than 5,334 entries
  *   27  `out` is too short for the file
  *
+ * With 4, 26 and 27 the detail is 0.
+ *
  * The first found is given, in this order over the whole text. The buffers stay the caller's and must not overlap, and a pointer may not
  * be NULL, not even for a length of 0.
  */
@@ -73,7 +75,9 @@ uint64_t reefcapstan_write(const uint8_t *text, size_t text_len, uint8_t *out, s
  *
  *   0       done; the detail is the length of the text, and `out` keeps what it held past it
  *   1 to 5  the file is refused, as by reefcapstan_run; the detail is the block
- *   27      `out` is too short for the text
+ *   27      `out` is too short for the text; the detail is 0
+ *
+ * The buffers stay the caller's and must not overlap, and a pointer may not be NULL, not even for a length of 0.
  */
 uint64_t reefcapstan_list(const uint8_t *file, size_t file_len, uint8_t *out, size_t out_len);
 

@@ -1,4 +1,4 @@
-/* The rig: document 01's bench, written once more in plain C, against the proved run.
+/* The rig: document 01's bench and document 02's writer and lister, written once more in plain C, against the exported functions.
  *
  *   rig SEED COUNT            random and damaged files
  *   rig --mutate SEED COUNT   hostile input of every length

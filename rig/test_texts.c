@@ -220,6 +220,44 @@ static void test_many_entries(void)
     note("and gives 27 where 144054 are lent", gives(&d, OUTPUT_TOO_SHORT, 0));
 }
 
+/* Texts of some MiB: longer than any that the guarded memory holds, so only the answers and the bytes of the output are compared. */
+
+enum { LONG_TEXT = 3 << 20 };
+
+static uint8_t long_text[LONG_TEXT];
+
+static void long_gives(const char *name, size_t length, uint32_t number, uint64_t detail)
+{
+    static uint8_t ours[LARGEST_FILE], theirs[LARGEST_FILE];
+    memset(ours, 0xA5, sizeof ours);
+    memset(theirs, 0xA5, sizeof theirs);
+    uint64_t answer = reefcapstan_write(long_text, length, theirs, sizeof theirs);
+    bool same = answer == reference_write(long_text, length, ours, sizeof ours);
+    note(name, same && answer == number + 256 * detail && memcmp(ours, theirs, sizeof ours) == 0);
+}
+
+static void test_long_texts(void)
+{
+    memset(long_text, '9', sizeof long_text);
+    memcpy(long_text, "H ", 2);
+    memcpy(long_text + LONG_TEXT - 5, " 9 7\n", 5);
+    long_gives("an N of three million digits gives 4", LONG_TEXT, BAD_HEAD, 0);
+    long_gives("and 25, line 1, without its newline", LONG_TEXT - 1, BAD_LINE, 1);
+    memcpy(long_text, "H 2 9 7\n", 8);
+    for (size_t at = 8; at < LONG_TEXT; at += 4) memcpy(long_text + at, "T 1\n", 4);
+    long_gives("786,430 entries give 26", LONG_TEXT, TOO_MANY_ENTRIES, 0);
+    long_text[LONG_TEXT - 1] = ' ';
+    long_gives("and 25 with the last line, where it has no newline", LONG_TEXT, BAD_LINE, 786431);
+}
+
+/* The numbers of the header that the archive comes with are the rig's own. */
+#ifdef REEFCAPSTAN_H
+_Static_assert(REEFCAPSTAN_FILE_MAX == LARGEST_FILE, "the longest file");
+_Static_assert(REEFCAPSTAN_TEXT_MAX == LONGEST_LISTING, "the longest text");
+_Static_assert(REEFCAPSTAN_LOG_MAX == 12 + 12 * MOST_ENTRIES, "the longest log");
+_Static_assert(REEFCAPSTAN_NUMBER(25 + 256 * 3) == 25 && REEFCAPSTAN_DETAIL(25 + 256 * 3) == 3, "number and detail");
+#endif
+
 /* Lists. */
 
 static void list_gives(const char *name, size_t file_len, size_t out_len, uint32_t number, uint64_t detail)
@@ -297,6 +335,7 @@ void test_texts(void)
     test_bytes();
     test_cases();
     test_many_entries();
+    test_long_texts();
     test_lists();
     test_output_lengths();
     printf("  %llu texts and files were written or listed by both\n", (unsigned long long)jobs);

@@ -1,3 +1,4 @@
 pub mod Sizes
 pub mod Pieces
 pub mod Answers
+pub mod Undone

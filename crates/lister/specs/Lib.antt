@@ -1,2 +1,4 @@
 pub mod Types
 pub mod Lister
+pub mod Undone
+pub mod Parts

@@ -14,7 +14,7 @@ use step::Kind;
 use step::Request;
 use text::field::count_digits;
 
-// A letter, a space, a number and a newline: how long they are.
+// A letter, a space, a number and a newline.
 fn plain_length(p: u64) -> usize
     ensures { λ r. ⌜ r ≡ length (kindLine Kind.Step p) ⌝ }
 {
@@ -22,6 +22,7 @@ fn plain_length(p: u64) -> usize
     digits + 3
 }
 
+// The line of a request: a store has a number more.
 fn request_length(p: u64, request: Request) -> usize
     ensures { λ r. ⌜ r ≡ length (kindLine (Kind.Ask request) p) ⌝ }
 {
@@ -49,7 +50,7 @@ fn line_length(entry: Entry) -> usize
     }
 }
 
-// `H N S V`: how long it is, and its bytes at the front.
+// `H N S V`.
 pub(crate) fn start_length(n: u8, s: u64, v: u64) -> usize
     ensures { λ r. ⌜ r ≡ length (startLine n s v) ⌝ }
 {
@@ -59,7 +60,7 @@ pub(crate) fn start_length(n: u8, s: u64, v: u64) -> usize
     a + b + c + 5
 }
 
-// The lines of a part's entries: how long they are.
+// The lines of a part's entries.
 fn part_length(part: &[u8]) -> usize
     requires { ⌜ length (now part) ≤ 504 ⌝ }
     ensures { λ r. ⌜ (r ≡ length (entryLines (partEntries (now (part .entry)) (length (now (part .entry)) / 12)))) × (r ≤ 1848) ⌝ }

@@ -7,7 +7,8 @@ ghost use lib.ListN.{length};
 ghost use lib.Seq.{sets};
 ghost use Rattle.schedule.specs.File.{reading, fileEntries};
 ghost use Rattle.schedule.specs.Direct.{isAccepted, partEntries};
-ghost use Rattle.writer.specs.Made.{plainLine, storeLine, kindLine, entryLine, entryLines, startLine};
+ghost use Rattle.writer.specs.Made.{kindLine, entryLine, entryLines, startLine};
+ghost use Rattle.lister.specs.Parts.{plainLine, storeLine};
 use schedule::block_of;
 use schedule::entry_at;
 use schedule::used_entries;
@@ -46,6 +47,7 @@ fn put_store(out: &mut [u8], at: usize, p: u64, v: u64) -> usize
     write_field(out, second, v, 10)
 }
 
+// The line of a request.
 fn put_request(out: &mut [u8], at: usize, p: u64, request: Request) -> usize
     requires { ⌜ at + length (kindLine (Kind.Ask request) p) ≤ length (now out) ⌝ }
     ensures { λ r. ⌜ (r ≡ at + length (kindLine (Kind.Ask request) p)) × (now (out .exit) ≡ sets (now (out .entry)) at (kindLine (Kind.Ask request) p)) ⌝ }
@@ -57,6 +59,7 @@ fn put_request(out: &mut [u8], at: usize, p: u64, request: Request) -> usize
     }
 }
 
+// The line of an entry.
 fn put_entry(out: &mut [u8], at: usize, entry: Entry) -> usize
     requires { ⌜ (at + length (entryLine entry) ≤ length (now out)) × (entry .process .0 < 256) ⌝ }
     ensures { λ r. ⌜ (r ≡ at + length (entryLine entry)) × (now (out .exit) ≡ sets (now (out .entry)) at (entryLine entry)) ⌝ }
@@ -69,6 +72,7 @@ fn put_entry(out: &mut [u8], at: usize, entry: Entry) -> usize
     }
 }
 
+// `H N S V`, at the front.
 pub(crate) fn put_start(out: &mut [u8], n: u8, s: u64, v: u64) -> usize
     requires { ⌜ length (startLine n s v) ≤ length (now out) ⌝ }
     ensures { λ r. ⌜ (r ≡ length (startLine n s v)) × (now (out .exit) ≡ sets (now (out .entry)) 0 (startLine n s v)) ⌝ }
@@ -79,7 +83,7 @@ pub(crate) fn put_start(out: &mut [u8], n: u8, s: u64, v: u64) -> usize
     write_field(out, c, v, 10)
 }
 
-// And their bytes, from a place on.
+// The lines of a part's entries.
 fn put_part(out: &mut [u8], from: usize, part: &[u8]) -> usize
     requires { ⌜ from + length (entryLines (partEntries (now part) (length (now part) / 12))) ≤ length (now out) ⌝ }
     ensures { λ r. ⌜ (r ≡ from + length (entryLines (partEntries (now (part .entry)) (length (now (part .entry)) / 12))))
@@ -96,6 +100,7 @@ fn put_part(out: &mut [u8], from: usize, part: &[u8]) -> usize
     at
 }
 
+// The lines of an accepted file's entries.
 pub(crate) fn put_entries(out: &mut [u8], from: usize, file: &[u8])
     requires { ⌜ (isAccepted (reading (now file)) ≡ true) × (from + length (entryLines (fileEntries (now file))) ≤ length (now out)) ⌝ }
     ensures { λ _. ⌜ now (out .exit) ≡ sets (now (out .entry)) from (entryLines (fileEntries (now (file .entry)))) ⌝ }

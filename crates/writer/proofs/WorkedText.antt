@@ -26,4 +26,17 @@ text-run =
       before = refl;
       ranged = refl;
       short = refl;
+      processes = (refl, refl);
+      values = (refl, refl);
+      fewN = (refl, refl);
+      manyN = (refl, refl);
+      lowS = (refl, refl);
+      highS = (refl, refl);
+      zeros = (refl, refl);
+      ends = (refl, refl);
+      fewer = (refl, refl);
+      more = (refl, refl);
+      alone = refl;
+      just = refl;
+      under = refl;
     }

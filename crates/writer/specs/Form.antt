@@ -22,11 +22,12 @@ before c l = take (placeOf c l) l
 abbrev pub behind : ℕ → List ℕ → List ℕ
 behind c l = drop (placeOf c l + 1) l
 
--- the parts of a list that a byte stands between: one more than it stands there
+-- a byte in front of the first of some parts
 abbrev pub begunWith : ℕ → List (List ℕ) → List (List ℕ)
 begunWith b [] = (b ∷ []) ∷ []
 begunWith b (part ∷ more) = (b ∷ part) ∷ more
 
+-- the parts of a list that a byte stands between: one more than it stands there
 unfoldable pub parts : ℕ → List ℕ → List (List ℕ)
 parts c [] = [] ∷ []
 parts c (b ∷ bs) = cond (eqb b c) ([] ∷ parts c bs) (begunWith b (parts c bs))
@@ -83,7 +84,7 @@ storeFine line = opensWith 83 line && (isProcess (before space (fields line)) &&
 unfoldable pub lineFine : List ℕ → Bool
 lineFine line = plainFine line || storeFine line
 
--- what such a line asks; a line outside the form asks for no entry
+-- what a line in the form asks
 abbrev pub asked : List ℕ → Entry
 asked line =
     cond (opensWith 76 line) (entryBy (said (fields line)) (Ask Load))
@@ -91,6 +92,7 @@ asked line =
     (cond (opensWith 84 line) (entryBy (said (fields line)) Step)
     (entryBy (said (before space (fields line))) (Ask (Store (said (behind space (fields line))))))))
 
+-- and any line: one outside the form asks for what stands where no entry is
 unfoldable pub entryIn : List ℕ → Entry
 entryIn line = cond (lineFine line) (asked line) noEntry
 

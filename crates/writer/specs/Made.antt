@@ -67,15 +67,9 @@ fileMade n s v es = firstMade n s v (blocksFor (length es)) ++ packed (blocksFor
 unfoldable pub startLine : ℕ → ℕ → ℕ → List ℕ
 startLine n s v = bytesIn "H " ++ (field n space ++ (field s space ++ field v newline))
 
-abbrev pub plainLine : ℕ → ℕ → List ℕ
-plainLine letter p = letter ∷ space ∷ field p newline
-
-abbrev pub storeLine : ℕ → ℕ → List ℕ
-storeLine p v = bytesIn "S " ++ (field p space ++ field v newline)
-
 abbrev pub kindLine : Kind → ℕ → List ℕ
 kindLine (Ask Load) p = bytesIn "L " ++ field p newline
-kindLine (Ask (Store v)) p = storeLine p v
+kindLine (Ask (Store v)) p = bytesIn "S " ++ (field p space ++ field v newline)
 kindLine (Ask Check) p = bytesIn "V " ++ field p newline
 kindLine Step p = bytesIn "T " ++ field p newline
 

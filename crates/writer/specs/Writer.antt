@@ -1,4 +1,4 @@
--- Document 02, P1: what the writer and the lister answer, and what every byte of a lent output then is.
+-- Document 02, P1: what the writer answers, and what every byte of a lent output then is.
 use Prim.Native.Nat.{ℕ}
 use mathlib.Core.Bool.{cond, not}
 use mathlib.Core.List.{List}

@@ -51,7 +51,7 @@ fn write_file(text: &[u8], from: usize, out: &mut [u8], entries: usize, n: u8, s
     write_later(text, from, &mut out[512..], entries);
 }
 
-fn turn(number: usize, line: usize) -> Written
+fn turn_away(number: usize, line: usize) -> Written
     ensures { λ r. ⌜ r ≡ turned number line ⌝ }
 {
     Written {
@@ -69,13 +69,13 @@ pub fn write_text(text: &[u8], out: &mut [u8]) -> Written
     let number = told.number;
     let line = told.line;
     if number != 0 {
-        return turn(number, line);
+        return turn_away(number, line);
     }
     let entries = told.entries;
     let blocks = (entries + 41) / 42;
     let need = 512 + 512 * blocks;
     if out.len() < need {
-        return turn(27, 0);
+        return turn_away(27, 0);
     }
     let from = told.from;
     let n = told.n;

@@ -11,14 +11,14 @@ use Rattle.writer.proofs.file.write_text.Tie as tie
 scan-requires : tie.Need-scan-requires
 scan-requires c κs = search needs
 
-turn-requires : tie.Need-turn-requires
-turn-requires c κs = search needs
+turn-away-requires : tie.Need-turn-away-requires
+turn-away-requires c κs = search needs
 
 returns : tie.Need-returns
 returns c =
     let text = now (c .before .before .before .before .before .args .text) in
     let told = c .before .before .scan .ensures in
-    written-refused text (now (c .before .before .before .before .before .args .out)) _ told (c .before .if1 .taken) (c .turn .ensures)
+    written-refused text (now (c .before .before .before .before .before .args .out)) _ told (c .before .if1 .taken) (c .turn-away .ensures)
 
 -- what is known of an accepted text
 fine : (c : tie.After-scan) → c .scan .result .number ≡ 0 → Accepted (now (c .before .before .before .args .text)) (c .scan .result)
@@ -33,13 +33,13 @@ mul-need c = omega (arith, fine (c .before) (c .if1 .left) .few)
 add-need : tie.Need-add-need
 add-need c = omega (arith, fine (c .before) (c .if1 .left) .few)
 
-turn-requires-2 : tie.Need-turn-requires-2
-turn-requires-2 c κs = search needs
+turn-away-requires-2 : tie.Need-turn-away-requires-2
+turn-away-requires-2 c κs = search needs
 
 returns-2 : tie.Need-returns-2
 returns-2 c =
     let text = now (c .before .before .before .before .before .before .args .text) in
-    written-short text (now (c .before .before .before .before .before .before .args .out)) _ (fine (c .before .before .before) (c .before .before .if1 .left)) (c .before .if2 .taken) (c .turn2 .ensures)
+    written-short text (now (c .before .before .before .before .before .before .args .out)) _ (fine (c .before .before .before) (c .before .before .if1 .left)) (c .before .if2 .taken) (c .turn-away2 .ensures)
 
 write-file-requires : tie.Need-write-file-requires
 write-file-requires c κs =
@@ -59,12 +59,12 @@ write-text-spec =
     tie.close
     (tie.spec
     scan-requires
-    turn-requires
+    turn-away-requires
     returns
     add-blocks
     mul-need
     add-need
-    turn-requires-2
+    turn-away-requires-2
     returns-2
     write-file-requires
     same-length
