@@ -6,8 +6,8 @@ use mathlib.Core.Bool.{Bool, true, false, cond, not}
 use mathlib.Core.List.{List}
 use native.Mathlib.Decide.{decLt}
 use native.Mathlib.Omega.{arith}
-use borrow.Author.Tests.{le-leb, lt-leb, lt-ltb, le-ltb, ne-eqb}
-use lib.Dec.{eqb, leb, ltb}
+use borrow.Author.Tests.{le-leb, lt-leb, ne-eqb}
+use lib.Dec.{eqb, leb}
 use lib.ListN.{length}
 use Rattle.numbers.specs.Numbers.{inRange}
 use Rattle.text.specs.Decimal.{said}
@@ -63,26 +63,25 @@ module _ (text : List ℕ) where
   pub scanned-judged : outside text ≡ 0 → headFine (lineOne text) ≡ true
       → scannedOf text ≡ judged (openingOf (lineOne text)) (placeOf newline text + 1) (length (textEntries text))
   unfolding scannedOf textNumber judged openingOf
-  scanned-judged e h =
-      rw (e, h) (go (inRange (textN text) (record { 0 = textS text })) (decLt 5334 (length (textEntries text))))
+  scanned-judged e h = rw (e, h) (go (inRange (textN text) (record { 0 = textS text })) (leb count 5334))
     where
-      count : ℕ
-      count = length (textEntries text)
-
       start : Bool → Opening
       start t =
           cond t (record { fine = true; ranged = true; n = textN text; s = textS text; v = textV text })
           (record { fine = true; ranged = false; n = 0; s = 0; v = 0 })
 
-      go : (t : Bool) → Dec (5334 < count)
-          → cond (eqb (cond (not t) 4 (cond (not (leb count 5334)) 26 0)) 0) (within text) (passedOver (cond (not t) 4 (cond (not (leb count 5334)) 26 0)) 0)
+      count : ℕ
+      count = length (textEntries text)
+
+      go : (t u : Bool)
+          → cond (eqb (cond (not t) 4 (cond (not u) 26 0)) 0) (within text) (passedOver (cond (not t) 4 (cond (not u) 26 0)) 0)
           ≡ cond (start t .ranged)
-          (cond (ltb 5334 count) (passedOver 26 0)
-          (record { number = 0; line = 0; from = placeOf newline text + 1; entries = count; n = start t .n; s = start t .s; v = start t .v }))
+          (cond u (record { number = 0; line = 0; from = placeOf newline text + 1; entries = count; n = start t .n; s = start t .s; v = start t .v })
+          (passedOver 26 0))
           (passedOver 4 0)
-      go false d = refl
-      go true (yes l) = rw (lt-leb count 5334 l, lt-ltb 5334 count l)
-      go true (no g) = rw (le-leb count 5334 (omega (arith, g)), le-ltb 5334 count (omega (arith, g)))
+      go false u = refl
+      go true false = refl
+      go true true = refl
 
   -- what a scan says, by the number that refuses the text
   pub scanned-number : scannedOf text .number ≡ textNumber text

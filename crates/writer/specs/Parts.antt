@@ -2,7 +2,7 @@
 use Prim.Native.Nat.{ℕ, _+_}
 use mathlib.Core.Bool.{true, false, cond, _&&_}
 use mathlib.Core.List.{List}
-use lib.Dec.{eqb, ltb}
+use lib.Dec.{eqb, leb}
 use lib.ListN.{length, drop}
 use Rattle.numbers.specs.Numbers.{inRange}
 use Rattle.schedule.specs.File.{noEntry}
@@ -62,7 +62,7 @@ passedOver number line = record { number = number; line = line; from = 0; entrie
 unfoldable pub judged : Opening → ℕ → ℕ → Scanned
 judged o from entries =
     cond (o .ranged)
-    (cond (ltb 5334 entries) (passedOver 26 0) (record { number = 0; line = 0; from = from; entries = entries; n = o .n; s = o .s; v = o .v }))
+    (cond (leb entries 5334) (record { number = 0; line = 0; from = from; entries = entries; n = o .n; s = o .s; v = o .v }) (passedOver 26 0))
     (passedOver 4 0)
 
 abbrev pub within : List ℕ → Scanned

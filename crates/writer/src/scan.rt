@@ -65,22 +65,23 @@ fn judge(opening: Opening, from: usize, entries: usize) -> Scanned
     ensures { λ r. ⌜ r ≡ judged opening from entries ⌝ }
 {
     let ranged = opening.ranged;
+    let few = entries <= 5334;
     if ranged {
-        if 5334 < entries {
-            return pass_over(26, 0);
+        if few {
+            let n = opening.n;
+            let s = opening.s;
+            let v = opening.v;
+            return Scanned {
+                number: 0,
+                line: 0,
+                from: from,
+                entries: entries,
+                n: n,
+                s: s,
+                v: v,
+            };
         }
-        let n = opening.n;
-        let s = opening.s;
-        let v = opening.v;
-        return Scanned {
-            number: 0,
-            line: 0,
-            from: from,
-            entries: entries,
-            n: n,
-            s: s,
-            v: v,
-        };
+        return pass_over(26, 0);
     }
     pass_over(4, 0)
 }
