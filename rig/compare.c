@@ -27,21 +27,21 @@ static bool same_logs(const struct lent *own, const struct lent *proved)
     return complain(what);
 }
 
-static bool same_numbers(uint32_t own, uint32_t proved)
+static bool same_told(uint32_t own, uint32_t proved)
 {
     char what[160];
     if (own == proved) {
         return true;
     }
-    snprintf(what, sizeof what, "the numbers differ: reference %u block %u, proved run %u block %u", own % 256, own / 256,
-             proved % 256, proved / 256);
+    snprintf(what, sizeof what, "the numbers differ: reference %u block %u place %u, proved run %u block %u place %u",
+             told_number(own), told_block(own), told_place(own), told_number(proved), told_block(proved), told_place(proved));
     return complain(what);
 }
 
 /* A refused file leaves the log as it was; said here apart from the comparison, as the reference might err too. */
-static bool untouched_if_refused(uint32_t number, const struct lent *log, const uint8_t *before)
+static bool untouched_if_refused(uint32_t told, const struct lent *log, const uint8_t *before)
 {
-    return number == 0 || memcmp(log->bytes, before, log->length) == 0 || complain("a refused file changed the log");
+    return told == 0 || memcmp(log->bytes, before, log->length) == 0 || complain("a refused file changed the log");
 }
 
 static bool lent_parts_hold(const struct lent *file, const uint8_t *given, const struct lent *log)
@@ -66,19 +66,19 @@ struct compared compare(const uint8_t *file, size_t file_len, size_t log_len, en
     memcpy(proved.bytes, before, log_len);
 
     at_work.by = "the reference";
-    uint32_t own_number = reference_run(lent_file.bytes, file_len, own.bytes, log_len);
+    uint32_t own_told = reference_run(lent_file.bytes, file_len, own.bytes, log_len);
     bool same = lent_parts_hold(&lent_file, file, &own);
     at_work.by = "the proved run";
-    uint32_t proved_number = reefcapstan_run(lent_file.bytes, file_len, proved.bytes, log_len);
+    uint32_t proved_told = reefcapstan_run(lent_file.bytes, file_len, proved.bytes, log_len);
     same = lent_parts_hold(&lent_file, file, &proved) && same;
     at_work.by = "no one";
 
-    same = same_numbers(own_number, proved_number) && same;
+    same = same_told(own_told, proved_told) && same;
     same = same_logs(&own, &proved) && same;
-    same = untouched_if_refused(own_number, &own, before) && same;
+    same = untouched_if_refused(own_told, &own, before) && same;
     if (!same) {
         keep_file(file, file_len, index);
     }
     compared_same += same;
-    return (struct compared){same, own_number, own.bytes};
+    return (struct compared){same, own_told, own.bytes};
 }

@@ -10,7 +10,7 @@ uint32_t reefcapstan_run(const uint8_t *file, size_t file_len, uint8_t *log, siz
 /* What one comparison gave. */
 struct compared {
     bool same;
-    uint32_t number;    /* what the reference returned */
+    uint32_t told;      /* what the reference returned */
     const uint8_t *log; /* the reference's log */
 };
 

@@ -30,6 +30,12 @@ struct job_done {
     const uint8_t *out; /* the proved library's output, until the next comparison */
 };
 
+/* What a list told of a file that it refused. */
+static inline uint32_t told_of(const struct job_done *d)
+{
+    return d->number + 256 * (uint32_t)d->detail;
+}
+
 text_function reference_of(enum task task);
 text_function proved_of(enum task task);
 

@@ -37,6 +37,13 @@ static void fit(struct prng *r, struct sample *out, size_t length)
     out->length = length;
 }
 
+static void flip_byte(struct prng *r, struct sample *out, uint32_t at)
+{
+    if (at < out->length) {
+        out->bytes[at] = chance(r, 1, 2) ? (uint8_t)prng_next(r) : (uint8_t)(out->bytes[at] ^ 1u << below(r, 8));
+    }
+}
+
 static void flip(struct prng *r, struct sample *out)
 {
     for (uint32_t left = between(r, 1, 8); left > 0 && out->length > 0; left--) {
@@ -45,10 +52,24 @@ static void flip(struct prng *r, struct sample *out)
             at -= at % BLOCK; /* the first bytes of a block say most */
             at += below(r, 20);
         }
-        if (at < out->length) {
-            out->bytes[at] = chance(r, 1, 2) ? (uint8_t)prng_next(r) : (uint8_t)(out->bytes[at] ^ 1u << below(r, 8));
-        }
+        flip_byte(r, out, at);
     }
+}
+
+/* Block 0 alone, with its check made right: N, S, V, the block count and what must be zero. As a changed byte seldom makes S too
+ * small, some of the bytes about it are cleared now and then. */
+static void flip_head(struct prng *r, struct sample *out)
+{
+    if (out->length < BLOCK) {
+        return;
+    }
+    if (chance(r, 1, 3)) {
+        memset(out->bytes + between(r, 2, 8), 0, between(r, 1, 8));
+    }
+    for (uint32_t left = below(r, 5); left > 0; left--) {
+        flip_byte(r, out, between(r, 2, chance(r, 1, 2) ? 19 : BLOCK_CHECK - 1));
+    }
+    seal(out->bytes);
 }
 
 /* Makes the whole blocks look right from outside, so that the bytes within are read. */
@@ -84,6 +105,7 @@ static void apply(struct prng *r, struct sample *out, enum mutation mutation)
         flip(r, out);
         seal_all(r, out);
         break;
+    case MUTATION_HEAD: flip_head(r, out); break;
     case MUTATION_SPLICED:
         splice(r, out);
         if (chance(r, 1, 2)) {
@@ -137,7 +159,8 @@ enum mutation mutate(struct prng *r, uint64_t index, struct sample *out)
 
 const char *mutation_name(enum mutation mutation)
 {
-    static const char *const names[MUTATIONS] = {"random bytes",    "cut",                         "as it is or grown",
-                                                 "bytes changed",   "bytes changed, checks right", "spliced"};
+    static const char *const names[MUTATIONS] = {
+        "random bytes", "cut", "as it is or grown", "bytes changed", "bytes changed, checks right",
+        "block 0 changed, check right", "spliced"};
     return mutation < MUTATIONS ? names[mutation] : "?";
 }

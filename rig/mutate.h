@@ -4,7 +4,16 @@
 
 #include "tally.h"
 
-enum mutation { MUTATION_RANDOM, MUTATION_CUT, MUTATION_GROWN, MUTATION_FLIPPED, MUTATION_SEALED, MUTATION_SPLICED, MUTATIONS };
+enum mutation {
+    MUTATION_RANDOM,
+    MUTATION_CUT,
+    MUTATION_GROWN,
+    MUTATION_FLIPPED,
+    MUTATION_SEALED,
+    MUTATION_HEAD,
+    MUTATION_SPLICED,
+    MUTATIONS
+};
 
 const char *mutation_name(enum mutation mutation);
 

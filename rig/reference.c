@@ -186,7 +186,7 @@ void machine_entry(struct machine *m, const uint8_t *entry, uint8_t *record)
     }
 }
 
-/* The file. Each reader gives 0 or the number of the first refusal, in document 01's order. */
+/* The file. Each reader gives 0 or the number of the first refusal, in the documents' order. */
 
 uint32_t block_check(const uint8_t *block)
 {
@@ -215,15 +215,38 @@ static uint32_t read_check_and_place(const uint8_t *block, size_t place)
     return get16(block) != place ? BAD_PLACE : 0;
 }
 
+/* The place of the first byte of block 0 that must be zero and isn't; 0, which is no such place, if there is none. */
+static uint32_t first_stray(const uint8_t *block)
+{
+    if (block[3] != 0) {
+        return 3;
+    }
+    if (all_zero(block, HEAD_TAIL, BLOCK_CHECK)) {
+        return 0;
+    }
+    uint32_t place = HEAD_TAIL;
+    while (block[place] == 0) {
+        place++;
+    }
+    return place;
+}
+
 static uint32_t read_head(const uint8_t *block, size_t blocks)
 {
     uint32_t refused = read_check_and_place(block, 0);
     if (refused != 0) {
         return refused;
     }
-    bool good = block[2] >= 1 && block[2] <= PROCESSES && block[3] == 0 && get32(block + 4) >= 2 &&
-                get16(block + 16) == blocks - 1 && all_zero(block, 18, BLOCK_CHECK);
-    return good ? 0 : BAD_HEAD;
+    if (block[2] < 1 || block[2] > PROCESSES) {
+        return BAD_PROCESSES;
+    }
+    if (get32(block + 4) < 2) {
+        return BAD_LAST;
+    }
+    if (get16(block + 16) != blocks - 1) {
+        return BAD_BLOCK_COUNT;
+    }
+    return first_stray(block) != 0 ? STRAY_BYTE : 0;
 }
 
 static bool good_entry(const uint8_t *entry)
@@ -255,26 +278,26 @@ static uint32_t read_later(const uint8_t *block, size_t place)
     return good ? 0 : BAD_BLOCK;
 }
 
-static uint32_t refuse(uint32_t number, size_t block)
+static uint32_t refuse(uint32_t number, size_t block, uint32_t place)
 {
-    return number + 256 * (uint32_t)block;
+    return number + 256 * (uint32_t)block + 65536 * place;
 }
 
 uint32_t read_file(const uint8_t *file, size_t file_len, size_t *entries)
 {
     if (file_len % BLOCK != 0 || file_len < BLOCK || file_len > (size_t)BLOCKS * BLOCK) {
-        return refuse(BAD_LENGTH, 0);
+        return refuse(BAD_LENGTH, 0, 0);
     }
     size_t blocks = file_len / BLOCK;
     uint32_t number = read_head(file, blocks);
     if (number != 0) {
-        return refuse(number, 0);
+        return refuse(number, 0, number == STRAY_BYTE ? first_stray(file) : 0);
     }
     for (size_t b = 1; b < blocks; b++) {
         const uint8_t *block = file + BLOCK * b;
         number = read_later(block, b);
         if (number != 0) {
-            return refuse(number, b);
+            return refuse(number, b, 0);
         }
         *entries += block[2];
     }
@@ -308,7 +331,7 @@ uint32_t reference_run(const uint8_t *file, size_t file_len, uint8_t *log, size_
         return refused;
     }
     if (log_len < LOG_HEAD + RECORD * entries) {
-        return refuse(LOG_TOO_SHORT, 0);
+        return refuse(LOG_TOO_SHORT, 0, 0);
     }
     struct machine m;
     machine_start(&m, file[2], get32(file + 4), get64(file + 8));

@@ -8,6 +8,7 @@ enum {
     PROCESSES = 16,
     BLOCK = 512,         /* bytes of a block */
     BLOCK_CHECK = 510,   /* where its check stands */
+    HEAD_TAIL = 18,      /* from here to its check, block 0 is zero */
     BLOCKS = 128,        /* blocks of a largest file */
     ENTRY = 12,          /* bytes of an entry, and of a record */
     ENTRIES_FROM = 4,    /* where the entries of a block start */
@@ -37,10 +38,29 @@ enum refusal {
     BAD_LENGTH = 1,
     BAD_CHECK = 2,
     BAD_PLACE = 3,
-    BAD_HEAD = 4,
     BAD_BLOCK = 5,
-    LOG_TOO_SHORT = 6
+    LOG_TOO_SHORT = 6,
+    BAD_PROCESSES = 16,
+    BAD_LAST = 17,
+    BAD_BLOCK_COUNT = 18,
+    STRAY_BYTE = 19
 };
+
+/* What a refused file gives is number + 256 * block + 65,536 * place. The place is that of a stray byte in block 0, else 0. */
+static inline uint32_t told_number(uint32_t told)
+{
+    return told % 256;
+}
+
+static inline uint32_t told_block(uint32_t told)
+{
+    return told / 256 % 256;
+}
+
+static inline uint32_t told_place(uint32_t told)
+{
+    return told / 65536;
+}
 
 enum mark { MARK_NONE = 0, MARK_CURRENT = 1, MARK_OLD = 2 };
 
@@ -84,10 +104,10 @@ void machine_entry(struct machine *m, const uint8_t *entry, uint8_t *record);
 
 uint32_t block_check(const uint8_t *block);
 
-/* 0 with the entries added up, or number + 256 * block: 1 to 5 of document 01's table. */
+/* 0 with the entries added up, or what is told of a refused file, whatever log is lent: every refusal but 6. */
 uint32_t read_file(const uint8_t *file, size_t file_len, size_t *entries);
 
-/* 0, or number + 256 * block. */
+/* 0, or what is told of a refused file. */
 uint32_t reference_run(const uint8_t *file, size_t file_len, uint8_t *log, size_t log_len);
 
 #endif

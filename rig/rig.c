@@ -4,7 +4,7 @@
  *   rig --mutate SEED COUNT   hostile input of every length
  *   rig --texts SEED COUNT    random and damaged texts: the writer and the lister
  *   rig --speed               the two times side by side
- *   rig --selftest            document 01's own runs and lines, and hand-made texts */
+ *   rig --selftest            document 01's own runs and lines, and hand-made faults and texts */
 #include "mutate.h"
 #include "order.h"
 #include "run_texts.h"
@@ -23,7 +23,7 @@ static size_t failed;
 static bool check_order(uint64_t index, const struct compared *c)
 {
     struct history h;
-    if (c->number != 0 || !history_read(&h, sample.bytes, sample.length, c->log) || h.calls == 0) {
+    if (c->told != 0 || !history_read(&h, sample.bytes, sample.length, c->log) || h.calls == 0) {
         return true;
     }
     if (!order_exists(&h, BY_ANSWER) || !order_exists(&h, BY_DECISION)) {

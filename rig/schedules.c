@@ -583,6 +583,30 @@ static void damage_block_count(struct prng *r, uint8_t *head)
     put16(head + 16, told);
 }
 
+/* Some of the bytes side by side, some far apart: the first of them is the one to be named. */
+static void damage_head_tails(struct prng *r, uint8_t *head)
+{
+    uint32_t at = edge_or_inside(r, HEAD_TAIL, BLOCK_CHECK - 1);
+    for (uint32_t left = between(r, 2, 5); left > 0; left--) {
+        head[at] = nonzero_byte(r);
+        at = at + 1 < BLOCK_CHECK && chance(r, 1, 2) ? at + 1 : edge_or_inside(r, HEAD_TAIL, BLOCK_CHECK - 1);
+    }
+}
+
+static void damage_head(struct prng *r, uint8_t *head, enum defect defect)
+{
+    static const uint8_t wrong_n[] = {0, 17, 18, 32, 128, 255};
+    switch (defect) {
+    case DEFECT_PROCESSES: head[2] = wrong_n[below(r, sizeof wrong_n)]; break;
+    case DEFECT_LAST: put32(head + 4, below(r, 2)); break;
+    case DEFECT_BLOCK_COUNT: damage_block_count(r, head); break;
+    case DEFECT_HEAD_BYTE_3: head[3] = nonzero_byte(r); break;
+    case DEFECT_HEAD_TAIL: head[edge_or_inside(r, HEAD_TAIL, BLOCK_CHECK - 1)] = nonzero_byte(r); break;
+    case DEFECT_HEAD_TAILS: damage_head_tails(r, head); break;
+    default: break;
+    }
+}
+
 static void damage_count_off(struct prng *r, struct sample *f)
 {
     uint8_t *block = later(r, f);
@@ -656,16 +680,9 @@ static void damage_any_bytes(struct prng *r, struct sample *f)
 
 static void damage_block(struct prng *r, struct sample *f, enum defect defect)
 {
-    static const uint8_t wrong_n[] = {0, 17, 18, 32, 128, 255};
-    uint8_t *head = f->bytes;
     uint8_t *block = later(r, f);
     uint8_t *entry = some_entry(r, f);
     switch (defect) {
-    case DEFECT_PROCESSES: head[2] = wrong_n[below(r, sizeof wrong_n)]; break;
-    case DEFECT_LAST: put32(head + 4, below(r, 2)); break;
-    case DEFECT_BLOCK_COUNT: damage_block_count(r, head); break;
-    case DEFECT_HEAD_BYTE_3: head[3] = nonzero_byte(r); break;
-    case DEFECT_HEAD_TAIL: head[edge_or_inside(r, 18, BLOCK_CHECK - 1)] = nonzero_byte(r); break;
     case DEFECT_COUNT_ABOVE: block[2] = (uint8_t)(chance(r, 1, 2) ? 43 : between(r, 43, 255)); break;
     case DEFECT_COUNT_OFF: damage_count_off(r, f); break;
     case DEFECT_BLOCK_BYTE_3: block[3] = nonzero_byte(r); break;
@@ -680,7 +697,7 @@ static void damage_block(struct prng *r, struct sample *f, enum defect defect)
     case DEFECT_PLACE: damage_place(r, f); break;
     case DEFECT_SWAPPED: damage_swapped(r, f); break;
     case DEFECT_ANY_BYTES: damage_any_bytes(r, f); break;
-    default: break;
+    default: damage_head(r, f->bytes, defect); break;
     }
 }
 
@@ -771,9 +788,24 @@ static void damage_log(struct prng *r, struct sample *f, size_t need)
     }
 }
 
+/* A part of block 0 with some of those behind it in the order of the refusals, and now and then a defect that comes before or after
+ * them all. */
+static uint32_t some_head_defects(struct prng *r)
+{
+    uint32_t first = between(r, DEFECT_PROCESSES, DEFECT_HEAD_TAILS);
+    uint32_t defects = 1u << first;
+    for (uint32_t d = first + 1; d <= DEFECT_HEAD_TAILS; d++) {
+        defects |= (uint32_t)chance(r, 1, 2) << d;
+    }
+    return chance(r, 1, 3) ? defects | 1u << between(r, DEFECT_COUNT_ABOVE, DEFECT_LATE_BYTE) : defects;
+}
+
 /* Each bit a kind of defect. Those of the length hide all the others, so they are taken less often. */
 static uint32_t some_defects(struct prng *r)
 {
+    if (chance(r, 1, 5)) {
+        return some_head_defects(r);
+    }
     uint32_t count = chance(r, 3, 5) ? 1 : chance(r, 3, 5) ? 2 : between(r, 3, 6);
     uint32_t defects = 0;
     while (count > 0) {
@@ -820,7 +852,7 @@ void sample_make(struct prng *r, struct sample *out)
 {
     static struct schedule s; /* too large for a stack */
     make_sound(r, out, &s);
-    if (chance(r, 2, 5)) {
+    if (chance(r, 1, 2)) {
         damage(r, out, LOG_HEAD + RECORD * s.entries);
     }
 }
@@ -839,8 +871,8 @@ const char *style_name(enum style style)
 const char *defect_name(enum defect defect)
 {
     static const char *const names[DEFECTS] = {
-        "N 0 or above 16", "S 0 or 1", "block count in block 0", "byte 3 of block 0", "bytes 18 to 509 of block 0",
-        "count above 42", "count of other entries", "byte 3 of a later block", "kind 0 or above 4",
+        "N 0 or above 16", "S 0 or 1", "block count in block 0", "byte 3 of block 0", "byte of 18 to 509 of block 0",
+        "several bytes of 18 to 509", "count above 42", "count of other entries", "byte 3 of a later block", "kind 0 or above 4",
         "bytes 2, 3 of an entry", "value of no store", "byte past the entries", "place", "two blocks swapped",
         "any bytes", "check", "check plus 65,521", "byte under its check", "block lost", "block added",
         "129 or 130 blocks", "truncated", "extended", "less than a block", "log too short"};

@@ -45,6 +45,7 @@ enum defect {
     DEFECT_BLOCK_COUNT,   /* block 0 tells another number of blocks */
     DEFECT_HEAD_BYTE_3,
     DEFECT_HEAD_TAIL,     /* a byte of 18 to 509 */
+    DEFECT_HEAD_TAILS,    /* several of them */
     DEFECT_COUNT_ABOVE,   /* a count of 43 or more */
     DEFECT_COUNT_OFF,     /* a count of 0 to 42, but not that of the entries */
     DEFECT_BLOCK_BYTE_3,

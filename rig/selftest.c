@@ -1,7 +1,9 @@
 #include "selftest.h"
 
 #include "compare.h"
+#include "compare_texts.h"
 #include "order.h"
+#include "test_head.h"
 #include "test_texts.h"
 
 /* An entry and what it comes to. */
@@ -85,7 +87,7 @@ struct played {
     uint8_t file[FILE_ROOM];
     size_t length;
     uint8_t log[LOG_ROOM];
-    uint32_t number;
+    uint32_t told;
     bool same;
 };
 
@@ -95,7 +97,7 @@ static uint64_t files_played;
 static void play(size_t log_len)
 {
     struct compared c = compare(now.file, now.length, log_len, STAND_MIDDLE, files_played++);
-    now.number = c.number;
+    now.told = c.told;
     now.same = c.same;
     memcpy(now.log, c.log, log_len);
 }
@@ -134,7 +136,7 @@ static void test_runs(void)
     for (size_t i = 0; i < RUNS; i++) {
         lay_run(&runs[i]);
         play(LOG_HEAD + RECORD * runs[i].lines);
-        note(runs[i].name, now.number == 0 && now.same && log_is(&runs[i]));
+        note(runs[i].name, now.told == 0 && now.same && log_is(&runs[i]));
     }
     lay_run(&runs[RUN_FULL]);
     note("the full run's checks are 131 and 5426",
@@ -146,7 +148,7 @@ static void test_runs(void)
 static void gives(const char *name, size_t log_len, uint32_t number, uint32_t block)
 {
     play(log_len);
-    note(name, now.number == number + 256 * block && now.same);
+    note(name, now.told == number + 256 * block && now.same);
 }
 
 /* A file of the given number of empty blocks after block 0. */
@@ -190,11 +192,11 @@ static void test_by_program(void)
     lay_empty(16, 9, 0);
     gives("N 16 is accepted", 12, 0, 0);
     lay_empty(0, 9, 0);
-    gives("N 0 gives 4", 12, 4, 0);
+    gives("N 0 gives 16", 12, 16, 0);
     lay_empty(17, 9, 0);
-    gives("N 17 gives 4", 12, 4, 0);
+    gives("N 17 gives 16", 12, 16, 0);
     lay_empty(2, 1, 0);
-    gives("S 1 gives 4", 12, 4, 0);
+    gives("S 1 gives 17", 12, 17, 0);
     lay_empty(2, 2, 0);
     gives("S 2 is accepted", 12, 0, 0);
     lay_run(&runs[RUN_FULL]);
@@ -370,9 +372,11 @@ int selftest(void)
 {
     printf("document 01's runs and lines, by the reference and by the proved run:\n");
     compare_start(0);
+    compare_texts_start();
     test_runs();
     test_by_program();
     test_nothing_lent();
+    test_head();
     test_every_byte();
     test_orders_found();
     test_wrong_runs();

@@ -1,4 +1,4 @@
-/* Document 01's own examples, typed from it, played by the reference and by the proved run; and hand-made texts. */
+/* Document 01's own examples, typed from it, played by the reference and by the proved run; and hand-made faults and texts. */
 #ifndef RIG_SELFTEST_H
 #define RIG_SELFTEST_H
 

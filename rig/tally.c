@@ -9,15 +9,16 @@ void tally_sample(struct tally *t, const struct sample *f)
     }
 }
 
+/* ROWS for the refusals that are block 0's alone: the tally of block 0 has them. */
 static enum tally_row row_of_refusal(uint32_t number, uint32_t block, size_t blocks)
 {
     switch (number) {
     case BAD_LENGTH: return ROW_REFUSED_1;
     case BAD_CHECK: return block == 0 ? ROW_REFUSED_2_HEAD : ROW_REFUSED_2_LATER;
     case BAD_PLACE: return block == 0 ? ROW_REFUSED_3_HEAD : ROW_REFUSED_3_LATER;
-    case BAD_HEAD: return ROW_REFUSED_4;
     case BAD_BLOCK: return block == 1 ? ROW_REFUSED_5_FIRST : block + 1 == blocks ? ROW_REFUSED_5_LAST : ROW_REFUSED_5_LATER;
-    default: return ROW_REFUSED_6;
+    case LOG_TOO_SHORT: return ROW_REFUSED_6;
+    default: return ROWS;
     }
 }
 
@@ -79,11 +80,20 @@ static void tally_log(struct tally *t, const uint8_t *log, size_t log_len)
     }
 }
 
+static void tally_refused(struct tally *t, const uint8_t *file, size_t file_len, uint32_t told)
+{
+    enum tally_row row = row_of_refusal(told_number(told), told_block(told), file_len / BLOCK);
+    if (row != ROWS) {
+        t->row[row]++;
+    }
+    tally_head(&t->head, file, file_len, told);
+}
+
 void tally_result(struct tally *t, const uint8_t *file, size_t file_len, size_t log_len, const struct compared *c)
 {
     t->row[ROW_FILES]++;
-    if (c->number != 0) {
-        t->row[row_of_refusal(c->number % 256, c->number / 256, file_len / BLOCK)]++;
+    if (c->told != 0) {
+        tally_refused(t, file, file_len, c->told);
         return;
     }
     t->row[ROW_ACCEPTED]++;
@@ -100,7 +110,6 @@ static const char *const row_names[ROWS] = {
     "refused 2 (check), later block",
     "refused 3 (place), block 0",
     "refused 3 (place), later block",
-    "refused 4 (block 0)",
     "refused 5, block 1",
     "refused 5, later block",
     "refused 5, last block",
@@ -144,6 +153,15 @@ static void print_line(const char *name, uint64_t count)
     printf("  %-36s %12llu\n", name, (unsigned long long)count);
 }
 
+static void print_head(const struct head_tally *t)
+{
+    for (uint32_t i = 0; i < HEAD_ROWS; i++) {
+        char name[64];
+        snprintf(name, sizeof name, "refused %s", head_row_name((enum head_row)i));
+        print_line(name, t->row[i]);
+    }
+}
+
 /* Styles and defects are known of generated samples only. */
 void tally_print(const struct tally *t, bool samples)
 {
@@ -152,6 +170,7 @@ void tally_print(const struct tally *t, bool samples)
             print_line(row_names[i], t->row[i]);
         }
     }
+    print_head(&t->head);
     for (uint32_t n = 1; n <= PROCESSES; n++) {
         char name[32];
         snprintf(name, sizeof name, "accepted: N %u", n);
@@ -184,6 +203,9 @@ size_t tally_missing(const struct tally *t)
     size_t none = 0;
     for (uint32_t i = 0; i < ROWS; i++) {
         none += missing(row_names[i], t->row[i]);
+    }
+    for (uint32_t i = 0; i < HEAD_ROWS; i++) {
+        none += missing(head_row_name((enum head_row)i), t->head.row[i]);
     }
     for (uint32_t n = 1; n <= PROCESSES; n++) {
         none += missing("an N of 1 to 16", t->n[n]);

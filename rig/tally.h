@@ -3,6 +3,7 @@
 #define RIG_TALLY_H
 
 #include "compare.h"
+#include "tally_head.h"
 
 enum tally_row {
     ROW_FILES,
@@ -12,7 +13,6 @@ enum tally_row {
     ROW_REFUSED_2_LATER,
     ROW_REFUSED_3_HEAD,
     ROW_REFUSED_3_LATER,
-    ROW_REFUSED_4,
     ROW_REFUSED_5_FIRST,
     ROW_REFUSED_5_LATER,
     ROW_REFUSED_5_LAST,
@@ -54,6 +54,7 @@ enum tally_row {
 
 struct tally {
     uint64_t row[ROWS];
+    struct head_tally head; /* refused files, by block 0 */
     uint64_t n[PROCESSES + 1]; /* accepted files of each N */
     uint64_t style[STYLES];
     uint64_t defect[DEFECTS];

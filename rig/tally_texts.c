@@ -39,14 +39,30 @@ static void tally_entries(struct text_tally *m, const uint8_t *file)
 
 static void tally_bad_line(struct text_tally *m, const struct text *t, uint64_t line)
 {
-    bool range = has_fault(t, FAULT_N) || has_fault(t, FAULT_S);
     m->row[TEXT_25]++;
     m->row[TEXT_25_LINE_1] += line == 1;
     m->row[TEXT_25_LATER] += line > 1;
     m->row[TEXT_25_FAR] += line > MOST_ENTRIES + 2;
-    m->row[TEXT_25_BEFORE_4] += line > 1 && range;
+    m->row[TEXT_25_BEFORE_16] += line > 1 && has_fault(t, FAULT_N);
+    m->row[TEXT_25_BEFORE_17] += line > 1 && has_fault(t, FAULT_S);
     m->row[TEXT_25_BEFORE_26] += has_fault(t, FAULT_MANY_ENTRIES);
     m->row[TEXT_25_BEFORE_27] += has_fault(t, FAULT_SHORT_OUTPUT);
+}
+
+static void tally_out_of_range(struct text_tally *m, const struct text *t, uint32_t number)
+{
+    bool many = has_fault(t, FAULT_MANY_ENTRIES);
+    bool short_output = has_fault(t, FAULT_SHORT_OUTPUT);
+    if (number == BAD_PROCESSES) {
+        m->row[TEXT_16]++;
+        m->row[TEXT_16_BEFORE_17] += has_fault(t, FAULT_S);
+        m->row[TEXT_16_BEFORE_26] += many;
+        m->row[TEXT_16_BEFORE_27] += short_output;
+    } else {
+        m->row[TEXT_17]++;
+        m->row[TEXT_17_BEFORE_26] += many;
+        m->row[TEXT_17_BEFORE_27] += short_output;
+    }
 }
 
 static void tally_written(struct text_tally *m, const struct text *t, const struct job_done *d)
@@ -69,17 +85,25 @@ void tally_text(struct text_tally *m, const struct text *t, const struct job_don
     switch (d->number) {
     case 0: tally_written(m, t, d); break;
     case BAD_LINE: tally_bad_line(m, t, d->detail); break;
-    case BAD_HEAD:
-        m->row[TEXT_4]++;
-        m->row[TEXT_4_BEFORE_26] += has_fault(t, FAULT_MANY_ENTRIES);
-        m->row[TEXT_4_BEFORE_27] += has_fault(t, FAULT_SHORT_OUTPUT);
-        break;
+    case BAD_PROCESSES:
+    case BAD_LAST: tally_out_of_range(m, t, d->number); break;
     case TOO_MANY_ENTRIES:
         m->row[TEXT_26]++;
         m->row[TEXT_26_BEFORE_27] += has_fault(t, FAULT_SHORT_OUTPUT);
         break;
     default: m->row[TEXT_27]++; break;
     }
+}
+
+/* The refusals that are block 0's alone are in the tally of block 0. */
+static void tally_list_refused(struct text_tally *m, const struct job *job, uint32_t told)
+{
+    m->row[LIST_1] += told_number(told) == BAD_LENGTH;
+    m->row[LIST_2] += told_number(told) == BAD_CHECK;
+    m->row[LIST_3] += told_number(told) == BAD_PLACE;
+    m->row[LIST_5] += told_number(told) == BAD_BLOCK;
+    m->row[LIST_LATER_BLOCK] += told_block(told) > 0;
+    tally_head(&m->head, job->in, job->in_len, told);
 }
 
 void tally_list(struct text_tally *m, const struct job *job, const struct job_done *d)
@@ -93,25 +117,29 @@ void tally_list(struct text_tally *m, const struct job *job, const struct job_do
     } else if (d->number == OUTPUT_TOO_SHORT) {
         m->row[LIST_27]++;
     } else {
-        m->row[LIST_1 + d->number - 1]++;
-        m->row[LIST_LATER_BLOCK] += d->detail > 0;
+        tally_list_refused(m, job, told_of(d));
     }
 }
 
 static const char *const names[TEXT_ROWS] = {
     "texts accepted",
     "texts refused 25",
-    "texts refused 4",
+    "texts refused 16",
+    "texts refused 17",
     "texts refused 26",
     "texts refused 27",
     "25 for line 1",
     "25 for a later line",
     "25 for a line after 5335 entries",
-    "25 with N or S out of range",
+    "25 with N out of range",
+    "25 with S out of range",
     "25 with more than 5334 entries",
     "25 with the output too short",
-    "4 with more than 5334 entries",
-    "4 with the output too short",
+    "16 with S out of range",
+    "16 with more than 5334 entries",
+    "16 with the output too short",
+    "17 with more than 5334 entries",
+    "17 with the output too short",
     "26 with the output too short",
     "written: no entries",
     "written: 42 entries",
@@ -133,7 +161,6 @@ static const char *const names[TEXT_ROWS] = {
     "files refused 1",
     "files refused 2",
     "files refused 3",
-    "files refused 4",
     "files refused 5",
     "files refused 27",
     "refused for a later block",
@@ -148,19 +175,29 @@ static unsigned long long met(const struct text_tally *m, enum text_row row)
     return (unsigned long long)m->row[row];
 }
 
+static unsigned long long met_head(const struct text_tally *m, enum head_row row)
+{
+    return (unsigned long long)m->head.row[row];
+}
+
 static void print_short(const struct text_tally *m)
 {
-    printf("%llu texts: %llu accepted, refused 25: %llu, 4: %llu, 26: %llu, 27: %llu; %llu one-byte edits; "
-           "%llu lists: %llu listed, refused 1: %llu, 2: %llu, 3: %llu, 4: %llu, 5: %llu, 27: %llu\n",
-           (unsigned long long)m->texts, met(m, TEXT_ACCEPTED), met(m, TEXT_25), met(m, TEXT_4), met(m, TEXT_26),
-           met(m, TEXT_27), (unsigned long long)m->edits, (unsigned long long)m->lists, met(m, LIST_ACCEPTED),
-           met(m, LIST_1), met(m, LIST_2), met(m, LIST_3), met(m, LIST_4), met(m, LIST_5), met(m, LIST_27));
+    printf("%llu texts: %llu accepted, refused 25: %llu, 16: %llu, 17: %llu, 26: %llu, 27: %llu; %llu one-byte edits; "
+           "%llu lists: %llu listed, refused 1: %llu, 2: %llu, 3: %llu, 16: %llu, 17: %llu, 18: %llu, 19: %llu, 5: %llu, "
+           "27: %llu\n",
+           (unsigned long long)m->texts, met(m, TEXT_ACCEPTED), met(m, TEXT_25), met(m, TEXT_16), met(m, TEXT_17),
+           met(m, TEXT_26), met(m, TEXT_27), (unsigned long long)m->edits, (unsigned long long)m->lists,
+           met(m, LIST_ACCEPTED), met(m, LIST_1), met(m, LIST_2), met(m, LIST_3), met_head(m, HEAD_16), met_head(m, HEAD_17),
+           met_head(m, HEAD_18), met_head(m, HEAD_19), met(m, LIST_5), met(m, LIST_27));
 }
 
 void text_tally_print(const struct text_tally *m)
 {
     for (uint32_t i = 0; i < TEXT_ROWS; i++) {
         printf("  %-42s %12llu\n", names[i], met(m, (enum text_row)i));
+    }
+    for (uint32_t i = 0; i < HEAD_ROWS; i++) {
+        printf("  files refused %-28s %12llu\n", head_row_name((enum head_row)i), met_head(m, (enum head_row)i));
     }
     for (uint32_t f = 0; f < FAULTS; f++) {
         printf("  fault: %-35s %12llu\n", fault_name((enum fault)f), (unsigned long long)m->fault[f]);
@@ -181,6 +218,10 @@ size_t text_tally_missing(const struct text_tally *m)
     size_t none = 0;
     for (uint32_t i = 0; i < TEXT_ROWS; i++) {
         none += missing(names[i], m->row[i]);
+    }
+    /* The other rows of block 0 are asked of the files that are played, as those are more. */
+    for (uint32_t i = HEAD_16; i <= HEAD_19; i++) {
+        none += missing(head_row_name((enum head_row)i), m->head.row[i]);
     }
     for (uint32_t f = 0; f < FAULTS; f++) {
         none += missing(fault_name((enum fault)f), m->fault[f]);

@@ -3,22 +3,28 @@
 #define RIG_TALLY_TEXTS_H
 
 #include "compare_texts.h"
+#include "tally_head.h"
 #include "typed.h"
 
 enum text_row {
     TEXT_ACCEPTED,
     TEXT_25,
-    TEXT_4,
+    TEXT_16,
+    TEXT_17,
     TEXT_26,
     TEXT_27,
     TEXT_25_LINE_1,
     TEXT_25_LATER,
     TEXT_25_FAR,        /* a line that even a text of too many entries reaches late */
-    TEXT_25_BEFORE_4,
+    TEXT_25_BEFORE_16,
+    TEXT_25_BEFORE_17,
     TEXT_25_BEFORE_26,
     TEXT_25_BEFORE_27,
-    TEXT_4_BEFORE_26,
-    TEXT_4_BEFORE_27,
+    TEXT_16_BEFORE_17,
+    TEXT_16_BEFORE_26,
+    TEXT_16_BEFORE_27,
+    TEXT_17_BEFORE_26,
+    TEXT_17_BEFORE_27,
     TEXT_26_BEFORE_27,
     TEXT_NO_ENTRIES,
     TEXT_ENTRIES_42,
@@ -40,7 +46,6 @@ enum text_row {
     LIST_1,
     LIST_2,
     LIST_3,
-    LIST_4,
     LIST_5,
     LIST_27,
     LIST_LATER_BLOCK,   /* refused for a block after block 0 */
@@ -53,6 +58,7 @@ enum text_row {
 
 struct text_tally {
     uint64_t row[TEXT_ROWS];
+    struct head_tally head; /* lists refused by block 0 */
     uint64_t fault[FAULTS];
     uint64_t texts;
     uint64_t edits; /* of one byte */

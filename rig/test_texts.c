@@ -126,7 +126,8 @@ struct typed_case {
 #define TEXT(text) text, sizeof text - 1
 #define GOOD(text, length) {TEXT(text), 2048, 0, length}
 #define BAD(text, line) {TEXT(text), 2048, BAD_LINE, line}
-#define RANGE(text) {TEXT(text), 2048, BAD_HEAD, 0}
+#define BAD_N(text) {TEXT(text), 2048, BAD_PROCESSES, 0}
+#define BAD_S(text) {TEXT(text), 2048, BAD_LAST, 0}
 
 static const struct typed_case cases[] = {
     BAD("", 1), BAD("\n", 1), BAD("H", 1), BAD("H 2 9 7", 1), GOOD("H 2 9 7\n", 512), BAD("H 2 9 7\n\n", 2),
@@ -145,14 +146,19 @@ static const struct typed_case cases[] = {
     BAD("H 2 9 7\nS 1 1 1\n", 2), BAD("H 2 9 7\nL 1\n\nT 1\n", 3), BAD("H 2 9 7\n\nX 1\n", 2),
     GOOD("H 2 9 18446744073709551615\n", 512), BAD("H 2 9 18446744073709551616\n", 1),
     BAD("H 0 0 18446744073709551616\n", 1), BAD("H 2 9 99999999999999999999\n", 1),
-    RANGE("H 0 9 7\n"), RANGE("H 17 9 7\n"), GOOD("H 16 9 7\n", 512), GOOD("H 1 9 7\n", 512), RANGE("H 2 0 7\n"),
-    RANGE("H 2 1 7\n"), GOOD("H 2 2 7\n", 512), GOOD("H 2 4294967295 7\n", 512), RANGE("H 2 4294967296 7\n"),
-    RANGE("H 2 4294967305 7\n"), RANGE("H 258 9 7\n"), RANGE("H 18446744073709551618 9 7\n"),
-    RANGE("H 2 18446744073709551625 7\n"), RANGE("H 100000000000000000000000000000000000000000000000000 9 7\n"),
-    RANGE("H 2 340282366920938463463374607431768211465 7\n"), RANGE("H 0 0 0\nL 1\n"),
+    BAD_N("H 0 9 7\n"), BAD_N("H 17 9 7\n"), GOOD("H 16 9 7\n", 512), GOOD("H 1 9 7\n", 512), BAD_N("H 258 9 7\n"),
+    BAD_N("H 4294967296 9 7\n"), BAD_N("H 4294967298 9 7\n"), BAD_N("H 18446744073709551618 9 7\n"),
+    BAD_N("H 100000000000000000000000000000000000000000000000000 9 7\n"),
+    BAD_S("H 2 0 7\n"), BAD_S("H 2 1 7\n"), GOOD("H 2 2 7\n", 512), GOOD("H 2 16 7\n", 512), GOOD("H 2 17 7\n", 512),
+    GOOD("H 2 4294967295 7\n", 512), BAD_S("H 2 4294967296 7\n"), BAD_S("H 2 4294967305 7\n"),
+    BAD_S("H 2 18446744073709551625 7\n"), BAD_S("H 2 340282366920938463463374607431768211465 7\n"),
+    BAD_S("H 16 0 7\n"), BAD_S("H 1 4294967296 7\n"),
     /* the order of the refusals */
-    BAD("H 0 9 7\nL 256\n", 2), BAD("H 2 99999999999 7\nL 1\nT 1", 3),
-    {TEXT("H 2 9 7\nX\n"), 0, BAD_LINE, 2}, {TEXT("H 0 9 7\n"), 0, BAD_HEAD, 0},
+    BAD("H 0 9 7\nL 256\n", 2), BAD("H 2 99999999999 7\nL 1\nT 1", 3), BAD("H 0 0 7\nX\n", 2),
+    {TEXT("H 2 9 7\nX\n"), 0, BAD_LINE, 2},
+    BAD_N("H 0 0 0\nL 1\n"), BAD_N("H 17 1 7\n"), BAD_N("H 0 4294967296 7\n"), BAD_N("H 4294967296 4294967296 7\n"),
+    BAD_N("H 18446744073709551618 18446744073709551625 7\n"),
+    {TEXT("H 0 9 7\n"), 0, BAD_PROCESSES, 0}, {TEXT("H 0 1 7\n"), 0, BAD_PROCESSES, 0}, {TEXT("H 2 1 7\n"), 0, BAD_LAST, 0},
     {TEXT("H 2 9 7\n"), 511, OUTPUT_TOO_SHORT, 0}, {TEXT("H 2 9 7\n"), 512, 0, 512}, {TEXT("H 2 9 7\n"), 0, OUTPUT_TOO_SHORT, 0},
     {TEXT("H 2 9 7\nL 1\n"), 1023, OUTPUT_TOO_SHORT, 0}, {TEXT("H 2 9 7\nL 1\n"), 1024, 0, 1024},
 };
@@ -207,8 +213,9 @@ static void test_many_entries(void)
     lines_give("and 27 where 65535 are lent", type_lines("H 2 9 7\n", "T 1\n", 5334), 65535, OUTPUT_TOO_SHORT, 0);
     lines_give("5335 entries give 26", type_lines("H 2 9 7\n", "T 1\n", 5335), 70000, TOO_MANY_ENTRIES, 0);
     lines_give("also where nothing is lent", type_lines("H 2 9 7\n", "T 1\n", 5335), 0, TOO_MANY_ENTRIES, 0);
-    lines_give("with N 0 they give 4", type_lines("H 0 9 7\n", "T 1\n", 5335), 70000, BAD_HEAD, 0);
-    lines_give("with S 2^32 they give 4", type_lines("H 2 4294967296 7\n", "T 1\n", 5335), 0, BAD_HEAD, 0);
+    lines_give("with N 0 they give 16", type_lines("H 0 9 7\n", "T 1\n", 5335), 70000, BAD_PROCESSES, 0);
+    lines_give("with S 2^32 they give 17", type_lines("H 2 4294967296 7\n", "T 1\n", 5335), 0, BAD_LAST, 0);
+    lines_give("with both they give 16", type_lines("H 0 4294967296 7\n", "T 1\n", 5335), 0, BAD_PROCESSES, 0);
     size_t length = type_lines("H 0 9 7\n", "T 1\n", 5335) - 1;
     lines_give("with N 0 and no last newline 25, line 5336", length, 0, BAD_LINE, 5336);
     length = type_lines("H 16 4294967295 18446744073709551615\n", "S 255 18446744073709551615\n", 5334);
@@ -236,13 +243,23 @@ static void long_gives(const char *name, size_t length, uint32_t number, uint64_
     note(name, same && answer == number + 256 * detail && memcmp(ours, theirs, sizeof ours) == 0);
 }
 
-static void test_long_texts(void)
+/* Nines between the heading's start and end. */
+static void type_long(const char *start, const char *end)
 {
     memset(long_text, '9', sizeof long_text);
-    memcpy(long_text, "H ", 2);
-    memcpy(long_text + LONG_TEXT - 5, " 9 7\n", 5);
-    long_gives("an N of three million digits gives 4", LONG_TEXT, BAD_HEAD, 0);
+    memcpy(long_text, start, strlen(start));
+    memcpy(long_text + LONG_TEXT - strlen(end), end, strlen(end));
+}
+
+static void test_long_texts(void)
+{
+    type_long("H ", " 9 7\n");
+    long_gives("an N of three million digits gives 16", LONG_TEXT, BAD_PROCESSES, 0);
     long_gives("and 25, line 1, without its newline", LONG_TEXT - 1, BAD_LINE, 1);
+    type_long("H 2 ", " 7\n");
+    long_gives("an S of three million digits gives 17", LONG_TEXT, BAD_LAST, 0);
+    type_long("H 0 ", " 7\n");
+    long_gives("and with N 0 it gives 16", LONG_TEXT, BAD_PROCESSES, 0);
     memcpy(long_text, "H 2 9 7\n", 8);
     for (size_t at = 8; at < LONG_TEXT; at += 4) memcpy(long_text + at, "T 1\n", 4);
     long_gives("786,430 entries give 26", LONG_TEXT, TOO_MANY_ENTRIES, 0);
@@ -292,8 +309,8 @@ static void test_lists(void)
     lay_worked();
     list_gives("a list of no bytes gives 1", 0, 100, BAD_LENGTH, 0);
     list_gives("a list of 1023 bytes gives 1", 1023, 100, BAD_LENGTH, 0);
-    list_gives("a list of block 0 alone gives 4", 512, 100, BAD_HEAD, 0);
-    list_gives("with no output it gives 4, too", 512, 0, BAD_HEAD, 0);
+    list_gives("a list of block 0 alone gives 18", 512, 100, BAD_BLOCK_COUNT, 0);
+    list_gives("with no output it gives 18, too", 512, 0, BAD_BLOCK_COUNT, 0);
     list_gives("the full run with no output gives 27", 1024, 0, OUTPUT_TOO_SHORT, 0);
     put16(file + 510, 132);
     list_gives("the check 132 gives 2, block 0", 1024, 100, BAD_CHECK, 0);
@@ -307,6 +324,10 @@ static void test_lists(void)
     set_byte(BLOCK + 4, 5);
     lay_check(1);
     list_gives("kind 5 gives 5, block 1, with no output, too", 1024, 0, BAD_BLOCK, 1);
+    lay_worked();
+    set_byte(300, 5);
+    lay_check(0);
+    list_gives("byte 300 gives 19, place 300, with no output, too", 1024, 0, STRAY_BYTE, 256 * 300);
     test_other_packing();
 }
 
@@ -331,7 +352,6 @@ static void test_output_lengths(void)
 
 void test_texts(void)
 {
-    compare_texts_start();
     test_bytes();
     test_cases();
     test_many_entries();

@@ -104,6 +104,15 @@ static bool in_range(const struct number *n, uint64_t low, uint64_t high)
     return n->fits && n->value >= low && n->value <= high;
 }
 
+/* 0, or the number for the first of N and S that is out of range. */
+static uint32_t read_range(const struct heading *h)
+{
+    if (!in_range(&h->processes, 1, PROCESSES)) {
+        return BAD_PROCESSES;
+    }
+    return in_range(&h->last, 2, UINT32_MAX) ? 0 : BAD_LAST;
+}
+
 /* Writing a file. The text is known to be in the form: what follows a number is below '0'. */
 
 static uint64_t number_at(const uint8_t **at)
@@ -155,7 +164,7 @@ static void write_start(const struct heading *h, uint8_t *block, size_t later)
     put32(block + 4, (uint32_t)h->last.value);
     put64(block + 8, h->value.value);
     put16(block + 16, (uint32_t)later);
-    memset(block + 18, 0, BLOCK_CHECK - 18);
+    memset(block + HEAD_TAIL, 0, BLOCK_CHECK - HEAD_TAIL);
     put16(block + BLOCK_CHECK, block_check(block));
 }
 
@@ -179,8 +188,9 @@ uint64_t reference_write(const uint8_t *text, size_t text_len, uint8_t *out, siz
     if (bad_line != 0) {
         return answer(BAD_LINE, bad_line);
     }
-    if (!in_range(&h.processes, 1, PROCESSES) || !in_range(&h.last, 2, UINT32_MAX)) {
-        return answer(BAD_HEAD, 0);
+    uint32_t out_of_range = read_range(&h);
+    if (out_of_range != 0) {
+        return answer(out_of_range, 0);
     }
     if (entries > MOST_ENTRIES) {
         return answer(TOO_MANY_ENTRIES, 0);

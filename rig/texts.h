@@ -16,7 +16,7 @@ enum {
 /* Number + 256 times a detail: the length written for 0, the line for 25, else 0. */
 uint64_t reference_write(const uint8_t *text, size_t text_len, uint8_t *out, size_t out_len);
 
-/* The same; for 1 to 5 the detail is the block. */
+/* The same; for a refused file, what reference_run tells of it, 6 apart. */
 uint64_t reference_list(const uint8_t *file, size_t file_len, uint8_t *out, size_t out_len);
 
 #endif

@@ -1,16 +1,17 @@
 -- The whole run of an accepted file: its start is ready, its count fits, and head, records and the rest of the log come together.
 use Prim.Native.Nat.{ℕ, _+_, _-_, _*_, _≤_}
-use mathlib.Core.Path.{_≡_, sym, ap, _∙_}
-use mathlib.Core.Bool.{Bool, true, cond}
+use mathlib.Core.Path.{_≡_, sym, _∙_}
+use mathlib.Core.Bool.{true}
 use mathlib.Core.List.{List, _++_, map}
 use native.Mathlib.Omega.{arith}
 use lib.ListN.{length, take, drop, length-append, length-drop}
 use lib.Seq.{take-at, drop-at, drop-drop}
 use Rattle.numbers.specs.Numbers.{inRange}
-use Rattle.machine.specs.State.{firstState, zeroState, startOf}
+use Rattle.numbers.proofs.First.{range-zero}
+use Rattle.machine.specs.State.{firstState, startOf}
 use Rattle.machine.specs.Frame.{Ready}
 use Rattle.machine.specs.Run.{EntryNote, notes, changeCount}
-use Rattle.bench.specs.Types.{Started, Start, Accepted, Played}
+use Rattle.bench.specs.Types.{Started, Accepted, Played}
 use Rattle.machine.proofs.RunLaws.{ready-start, notes-length, count-most}
 use Rattle.schedule.specs.File.{fileEntries, reading}
 use Rattle.schedule.specs.Direct.{isAccepted}
@@ -40,10 +41,7 @@ module _ (f : List ℕ) (n s v c : ℕ) (is : reading f ≡ Accepted n s v c) wh
   -- so the start is taken
   pub start-is : startState n s v ≡ firstState n (record { 0 = s }) v
   unfolding startOf
-  start-is =
-      ap
-      (λ (b : Bool). cond {A = Started} b (record { state = firstState n (record { 0 = s }) v; start = Start.InRange }) (record { state = zeroState; start = Start.OutOfRange }) .state)
-      range
+  start-is = rw (startState, range-zero n (record { 0 = s }) range)
 
   ready : Ready (startState n s v)
   ready = rw start-is (ready-start n (record { 0 = s }) v range)

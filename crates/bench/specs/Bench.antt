@@ -32,18 +32,19 @@ lastState f n s v = after (startState n s v) (fileEntries f)
 abbrev pub written : List EntryNote → ℕ → List ℕ → List ℕ
 written ws n log = headOf (length ws) (changeCount ws) n ++ (recordsOf (map inLog ws) ++ drop (logLength (length ws)) log)
 
--- turned away: a number, a block, and a state of zeros
-abbrev pub ranNot : ℕ → ℕ → Ran
-ranNot number block = record { number = number; block = block; state = zeroState }
+-- turned away: a number, a block, the place of a stray byte or 0, and a state of zeros
+abbrev pub ranNot : ℕ → ℕ → ℕ → Ran
+ranNot number block place = record { number = number; block = block; place = place; state = zeroState }
 
 -- the file's refusals, "then 6": "lent log shorter than 12 + 12 times the entries"
 abbrev pub ranBy : List ℕ → List ℕ → Reading → Ran
-ranBy f log (Refused number block) = ranNot number block
-ranBy f log (Accepted n s v c) = cond (leb (logLength c) (length log)) (record { number = 0; block = 0; state = lastState f n s v }) (ranNot 6 0)
+ranBy f log (Refused number block place) = ranNot number block place
+ranBy f log (Accepted n s v c) =
+    cond (leb (logLength c) (length log)) (record { number = 0; block = 0; place = 0; state = lastState f n s v }) (ranNot 6 0 0)
 
 -- "number, that block; log untouched"
 abbrev pub logBy : List ℕ → List ℕ → Reading → List ℕ
-logBy f log (Refused number block) = log
+logBy f log (Refused number block place) = log
 logBy f log (Accepted n s v c) = cond (leb (logLength c) (length log)) (written (notesOf f n s v) n log) log
 
 unfoldable pub ranOf : List ℕ → List ℕ → Ran

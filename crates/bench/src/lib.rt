@@ -6,11 +6,12 @@ pub mod note;
 mod part;
 pub mod whole;
 
-// What a run returns: 0 or what turned the file away, in which block, and the state after the last entry (zeros where the file
-// was turned away).
+// What a run returns: 0 or what turned the file away, in which block, the place of a stray byte or 0, and the state after the last entry
+// (zeros where the file was turned away).
 pub struct Ran {
     pub number: usize,
     pub block: usize,
+    pub place: usize,
     pub state: State,
 }
 

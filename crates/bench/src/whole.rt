@@ -46,13 +46,14 @@ fn play_blocks(file: &[u8], rest: &mut [u8], from: Played) -> Played
     played
 }
 
-fn turn_away(number: usize, block: usize) -> Ran
-    ensures { λ r. ⌜ r ≡ ranNot number block ⌝ }
+fn turn_away(number: usize, block: usize, place: usize) -> Ran
+    ensures { λ r. ⌜ r ≡ ranNot number block place ⌝ }
 {
     let state = zero_state();
     Ran {
         number: number,
         block: block,
+        place: place,
         state: state,
     }
 }
@@ -89,10 +90,11 @@ fn run_accepted(file: &[u8], log: &mut [u8], n: u8, s: u64, v: u64, entries: usi
         Ran {
             number: 0,
             block: 0,
+            place: 0,
             state: state,
         }
     } else {
-        turn_away(6, 0)
+        turn_away(6, 0, 0)
     }
 }
 
@@ -102,7 +104,11 @@ pub fn run(file: &[u8], log: &mut [u8]) -> Ran
 {
     let answer = read_file(file);
     match answer {
-        Reading::Refused { number, block } => turn_away(number, block),
+        Reading::Refused {
+            number,
+            block,
+            place,
+        } => turn_away(number, block, place),
         Reading::Accepted { n, s, v, entries } => run_accepted(file, log, n, s, v, entries),
     }
 }

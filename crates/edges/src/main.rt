@@ -1,4 +1,5 @@
-// Document 01's "By program" lines, run through the proved run. What this program prints is held to the file stdout beside it.
+// Document 01's "By program" lines, and what block 0 is refused with, run through the proved run. What this program prints is held to the
+// file stdout beside it.
 ghost use Prim.Native.Nat.{_+_, _*_, _≤_};
 ghost use lib.ListN.{length};
 use bench::whole::run;
@@ -58,15 +59,14 @@ fn try_file(name: &[u8], file: &[u8], log: &mut [u8]) {
     let ran = run(file, log);
     let number = ran.number;
     let block = ran.block;
+    let place = ran.place;
     let mut out = [0u8; 128];
     io::write_all(STDOUT_FILENO, name);
     if number == 0 {
         let n = text::line::write_head_of(&mut out, log);
         show(&out, n);
     } else {
-        let first = (number % 4294967296) as u32;
-        let second = (block % 4294967296) as u32;
-        let n = text::line::write_refused_line(&mut out, first, second);
+        let n = text::line::write_refused_line(&mut out, number, block, place);
         show(&out, n);
     }
 }
@@ -78,6 +78,36 @@ fn try_head(name: &[u8], n: u8, s: u8) {
     lay_first(&mut file, n, s, 0);
     seal(&mut file, 0);
     try_file(name, &file, &mut log);
+}
+
+// Bytes of block 0 that should be zero.
+fn lay_stray(file: &mut [u8], third: u8, low: u8, high: u8)
+    requires { ⌜ 512 ≤ length (now file) ⌝ }
+{
+    file[3] = third;
+    file[18] = low;
+    file[509] = high;
+}
+
+// A file of block 0 alone that counts `later` blocks after it, with these three bytes at the places 3, 18 and 509, which should be zero.
+fn try_stray(name: &[u8], n: u8, s: u8, later: u8, third: u8, low: u8, high: u8) {
+    let mut file = [0u8; 512];
+    let mut log = [0u8; 12];
+    lay_first(&mut file, n, s, later);
+    lay_stray(&mut file, third, low, high);
+    seal(&mut file, 0);
+    try_file(name, &file, &mut log);
+}
+
+// What block 0 is refused with, in order: each file has one thing wrong less than the one before it.
+fn try_order() {
+    try_stray(b"N 0, S 1, 1 later block, stray bytes: ", 0, 1, 1, 1, 1, 1);
+    try_stray(b"S 1, 1 later block, stray bytes: ", 2, 1, 1, 1, 1, 1);
+    try_stray(b"1 later block, stray bytes: ", 2, 9, 1, 1, 1, 1);
+    try_stray(b"stray bytes 3, 18, 509: ", 2, 9, 0, 1, 1, 1);
+    try_stray(b"stray bytes 18, 509: ", 2, 9, 0, 0, 1, 1);
+    try_stray(b"stray byte 509: ", 2, 9, 0, 0, 0, 1);
+    try_stray(b"no stray byte: ", 2, 9, 0, 0, 0, 0);
 }
 
 // Files of blocks without entries, as many as there may be and one more.
@@ -152,5 +182,6 @@ fn main() {
     try_head(b"N 17: ", 17, 9);
     try_head(b"S 1: ", 2, 1);
     try_head(b"S 2: ", 2, 2);
+    try_order();
     try_full_run();
 }

@@ -21,11 +21,9 @@ fn show(out: &[u8], n: usize) -> bool {
     }
 }
 
-fn refuse(number: usize, block: usize) -> bool {
+fn show_refusal(number: usize, block: usize, place: usize) -> bool {
     let mut out = [0u8; 128];
-    let first = (number % 4294967296) as u32;
-    let second = (block % 4294967296) as u32;
-    let n = text::line::write_refused_line(&mut out, first, second);
+    let n = text::line::write_refused_line(&mut out, number, block, place);
     show(&out, n)
 }
 
@@ -39,11 +37,12 @@ fn list(file: &[u8]) -> bool {
     let listed = list_file(file, &mut text);
     let number = listed.number;
     let block = listed.block;
+    let place = listed.place;
     let length = listed.length;
     if number == 0 {
         show(&text, length)
     } else {
-        refuse(number, block)
+        show_refusal(number, block, place)
     }
 }
 

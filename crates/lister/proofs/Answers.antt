@@ -21,18 +21,23 @@ text-most f n s v c e =
     rw (length-append (startLine n s v) (entryLines (fileEntries f)))
     (omega (arith, start-most n s v, lines-most (fileEntries f), accepted-bound f (rw e)))
 
-pub listed-low : (f out : List ℕ) → (listedOf f out .number ≤ 27) × (listedOf f out .block ≤ 127) × (listedOf f out .length ≤ 234761)
+-- the bounds of an answer
+pub record ListedLow (r : Listed) : Type 0 where
+  pub number : r .number ≤ 27
+  pub block : r .block ≤ 127
+  pub place : r .place ≤ 509
+  pub length : r .length ≤ 234761
+
+pub listed-low : (f out : List ℕ) → ListedLow (listedOf f out)
 unfolding listedOf
 listed-low f out = by (reading f) refl (reading-low f)
   where
-    which : ℕ → Bool → Listed
-    which size t = cond t (record { number = 0; block = 0; length = size }) (record { number = 27; block = 0; length = 0 })
+    room : (size : ℕ) → size ≤ 234761 → (t : Bool)
+        → ListedLow (cond t (record { number = 0; block = 0; place = 0; length = size }) (record { number = 27; block = 0; place = 0; length = 0 }))
+    room size h true = record { number = omega arith; block = omega arith; place = omega arith; length = h }
+    room size h false = record { number = omega arith; block = omega arith; place = omega arith; length = omega arith }
 
-    room : (size : ℕ) → size ≤ 234761 → (t : Bool) → (which size t .number ≤ 27) × (which size t .block ≤ 127) × (which size t .length ≤ 234761)
-    room size h true = (omega arith, omega arith, h)
-    room size h false = (omega arith, omega arith, omega arith)
-
-    by : (r : Reading) → reading f ≡ r → Low r → (listedBy f out r .number ≤ 27) × (listedBy f out r .block ≤ 127) × (listedBy f out r .length ≤ 234761)
-    by (Refused n k) e low = (omega (arith, low .0), low .1, omega arith)
+    by : (r : Reading) → reading f ≡ r → Low r → ListedLow (listedBy f out r)
+    by (Refused n k place) e low = record { number = omega (arith, low .0); block = low .1; place = low .2; length = omega arith }
     by (Accepted n s v c) e low =
         room (length (listing f n s v)) (text-most f n s v c e) (leb (length (listing f n s v)) (length out))

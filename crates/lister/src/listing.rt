@@ -23,6 +23,7 @@ fn list_accepted(file: &[u8], out: &mut [u8], n: u8, s: u64, v: u64, entries: us
         return Listed {
             number: 27,
             block: 0,
+            place: 0,
             length: 0,
         };
     }
@@ -31,6 +32,7 @@ fn list_accepted(file: &[u8], out: &mut [u8], n: u8, s: u64, v: u64, entries: us
     Listed {
         number: 0,
         block: 0,
+        place: 0,
         length: need,
     }
 }
@@ -41,9 +43,14 @@ pub fn list_file(file: &[u8], out: &mut [u8]) -> Listed
 {
     let answer = read_file(file);
     match answer {
-        Reading::Refused { number, block } => Listed {
+        Reading::Refused {
+            number,
+            block,
+            place,
+        } => Listed {
             number: number,
             block: block,
+            place: place,
             length: 0,
         },
         Reading::Accepted { n, s, v, entries } => list_accepted(file, out, n, s, v, entries),

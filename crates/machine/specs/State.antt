@@ -2,10 +2,10 @@
 use Prim.Native.Nat.{ℕ, _+_}
 use mathlib.Core.Bool.{Bool, not, _&&_, _||_, cond}
 use mathlib.Core.List.{[], _∷_}
-use lib.Dec.{leb, ltb}
+use lib.Dec.{eqb, leb, ltb}
 use lib.IntN.{pos, ℤ, negsuc}
 use lib.ListN.{getD, replicate}
-use Rattle.numbers.specs.Numbers.{inRange, allBelow}
+use Rattle.numbers.specs.Numbers.{inRange, rangeNumber, allBelow}
 use Rattle.step.specs.Steps.{isOld, storing}
 use Rattle.machine.specs.Types.{Sequence, Tag, Row, Record, Idle, State, Start, InRange, OutOfRange, Started}
 
@@ -83,10 +83,12 @@ zeroState =
       records = replicate 16 (firstRecord 0);
     }
 
--- "a direct start gives 4 for N or S and a state of zeros, all idle"
+-- Document 02, P2: "A direct start gives 16 or 17", and document 01: ".. and a state of zeros, all idle"
 unfoldable pub startOf : ℕ → Sequence → ℕ → Started
-startOf n s v = cond (inRange n s) (record { state = firstState n s v; start = InRange }) (record { state = zeroState; start = OutOfRange })
+startOf n s v =
+    cond (eqb (rangeNumber n s) 0) (record { state = firstState n s v; start = InRange })
+    (record { state = zeroState; start = OutOfRange (rangeNumber n s) })
 
 abbrev pub startNumber : Start → ℕ
 startNumber InRange = 0
-startNumber OutOfRange = 4
+startNumber (OutOfRange number) = number

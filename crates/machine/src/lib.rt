@@ -25,10 +25,10 @@ pub struct Answer {
     pub outcome: Outcome,
 }
 
-// Whether a start was taken, or turned away because N or S is out of range.
+// Whether a start was taken, or turned away because N or S is out of range, and by which number.
 pub enum Start {
     InRange,
-    OutOfRange,
+    OutOfRange(usize),
 }
 
 pub struct Started {

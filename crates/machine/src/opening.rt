@@ -6,7 +6,7 @@ use crate::Started;
 use crate::State;
 use numbers::Process;
 use numbers::Sequence;
-use numbers::in_range;
+use numbers::range_number;
 use step::Place;
 use step::Record;
 use step::Row;
@@ -84,7 +84,8 @@ pub fn zero_state() -> State
 pub fn start(n: usize, s: Sequence, v: u64) -> Started
     ensures { λ r. ⌜ r ≡ startOf n s v ⌝ }
 {
-    if in_range(n, s) {
+    let number = range_number(n, s);
+    if number == 0 {
         let state = first_state(n, s, v);
         Started {
             state: state,
@@ -94,17 +95,17 @@ pub fn start(n: usize, s: Sequence, v: u64) -> Started
         let state = zero_state();
         Started {
             state: state,
-            start: Start::OutOfRange,
+            start: Start::OutOfRange(number),
         }
     }
 }
 
 // A start's number: 0, or what turned it away.
-pub fn start_number(start: Start) -> u8
+pub fn start_number(start: Start) -> usize
     ensures { λ r. ⌜ r ≡ startNumber start ⌝ }
 {
     match start {
         Start::InRange => 0,
-        Start::OutOfRange => 4,
+        Start::OutOfRange(number) => number,
     }
 }

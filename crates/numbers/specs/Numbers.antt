@@ -1,14 +1,33 @@
--- The ranges of N and S; sums, tests and lists over the numbers below a bound; and numbers as bytes.
+-- The ranges of N and S, and the first number that is found; sums, tests and lists over the numbers below a bound; and numbers as bytes.
 use Prim.Native.Nat.{ℕ, zero, suc, _+_, _*_, _/_, _%_}
-use mathlib.Core.Bool.{Bool, _&&_, true}
-use lib.Dec.{leb}
+use mathlib.Core.Bool.{Bool, _&&_, true, cond}
+use lib.Dec.{eqb, leb}
 use Rattle.numbers.specs.Types.{Sequence}
 use mathlib.Core.List.{List, [], _∷_, _++_}
 use lib.ListN.{getD}
 
--- "N is the number of processes, 1 to 16. S is the last usable sequence number, 2 to 4,294,967,295."
+-- "N is the number of processes, 1 to 16."
+abbrev pub inRangeN : ℕ → Bool
+inRangeN n = leb 1 n && leb n 16
+
+-- "S is the last usable sequence number, 2 to 4,294,967,295."
+abbrev pub inRangeS : Sequence → Bool
+inRangeS s = leb 2 (s .0) && leb (s .0) 4294967295
+
 abbrev pub inRange : ℕ → Sequence → Bool
-inRange n s = (leb 1 n && leb n 16) && (leb 2 (s .0) && leb (s .0) 4294967295)
+inRange n s = inRangeN n && inRangeS s
+
+-- the number that is given unless something is fine; 0 stands for nothing found
+abbrev pub numberUnless : Bool → ℕ → ℕ
+numberUnless fine n = cond fine 0 n
+
+-- "The first found is given."
+abbrev pub firstFound : ℕ → ℕ → ℕ
+firstFound n rest = cond (eqb n 0) rest n
+
+-- Document 02, P2: "in this order, come 16 (N), 17 (S)": the number that refuses N and S, or 0
+abbrev pub rangeNumber : ℕ → Sequence → ℕ
+rangeNumber n s = firstFound (numberUnless (inRangeN n) 16) (numberUnless (inRangeS s) 17)
 
 -- f 0 + f 1 + .., n summands
 abbrev pub sumBelow : ℕ → (ℕ → ℕ) → ℕ
@@ -19,6 +38,11 @@ sumBelow (suc n) f = sumBelow n f + f n
 abbrev pub allBelow : ℕ → (ℕ → Bool) → Bool
 allBelow zero f = true
 allBelow (suc n) f = allBelow n f && f n
+
+-- the first that was found of f 0, f 1, .. and f (n - 1), or 0
+abbrev pub firstBelow : ℕ → (ℕ → ℕ) → ℕ
+firstBelow zero f = 0
+firstBelow (suc n) f = firstFound (firstBelow n f) (f n)
 
 -- the list of f 0, f 1, .., n long
 abbrev pub listBelow {ℓ} : {A : Type ℓ} → ℕ → (ℕ → A) → List A

@@ -23,9 +23,9 @@ fn show(out: &[u8], n: usize) -> bool {
     }
 }
 
-fn show_refusal(number: u32, block: u32) -> bool {
+fn show_refusal(number: usize, block: usize, place: usize) -> bool {
     let mut out = [0u8; 128];
-    let n = text::line::write_refused_line(&mut out, number, block);
+    let n = text::line::write_refused_line(&mut out, number, block, place);
     show(&out, n)
 }
 
@@ -76,10 +76,11 @@ fn play(file: &[u8]) -> bool {
     let ran = run(file, &mut log);
     let number = ran.number;
     let block = ran.block;
+    let place = ran.place;
     if number == 0 {
         show_log(&log)
     } else {
-        show_refusal((number % 4294967296) as u32, (block % 4294967296) as u32)
+        show_refusal(number, block, place)
     }
 }
 

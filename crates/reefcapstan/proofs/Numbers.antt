@@ -1,7 +1,6 @@
 -- The number that a function returns and its detail are small: together they fit the C number.
 -- Assumes nothing.
 use Prim.Native.Nat.{ℕ, _≤_, _<_}
-use mathlib.Core.Path.{_≡_}
 use mathlib.Core.Bool.{Bool, true, false, cond}
 use mathlib.Core.List.{List}
 use native.Mathlib.Decide.{decLt}
@@ -18,24 +17,27 @@ use Rattle.bench.specs.declared.Ran.{Ran}
 use Rattle.bench.specs.Bench.{ranBy, ranOf, lastState, ranNot}
 use Rattle.reefcapstan.specs.Door.{lineDetail}
 
-pub ran-low : (f log : List ℕ) → (ranOf f log .number ≤ 6) × (ranOf f log .block ≤ 127)
+-- the bounds of what a run returns
+pub record RanLow (r : Ran) : Type 0 where
+  pub number : r .number ≤ 27
+  pub block : r .block ≤ 127
+  pub place : r .place ≤ 509
+
+pub ran-low : (f log : List ℕ) → RanLow (ranOf f log)
 unfolding ranOf
 ran-low f log = by (reading f) (reading-low f)
   where
-    room : (c : ℕ) (r : Ran) → (r .number ≤ 6) × (r .block ≤ 127) → (b : Bool) → (cond b r (ranNot 6 0) .number ≤ 6) × (cond b r (ranNot 6 0) .block ≤ 127)
-    room c r h true = h
-    room c r h false = (omega arith, omega arith)
+    room : (r : Ran) → RanLow r → (t : Bool) → RanLow (cond t r (ranNot 6 0 0))
+    room r h true = h
+    room r h false = record { number = omega arith; block = omega arith; place = omega arith }
 
-    by : (r : Reading) → Low r → (ranBy f log r .number ≤ 6) × (ranBy f log r .block ≤ 127)
-    by (Refused n k) low = (omega (arith, low .0), low .1)
+    by : (r : Reading) → Low r → RanLow (ranBy f log r)
+    by (Refused n k place) low = record { number = omega (arith, low .0); block = low .1; place = low .2 }
     by (Accepted n s v c) low =
-        room c (record { number = 0; block = 0; state = lastState f n s v }) (omega arith, omega arith) (leb (logLength c) (length log))
+        room (record { number = 0; block = 0; place = 0; state = lastState f n s v }) (record { number = omega arith; block = omega arith; place = omega arith })
+        (leb (logLength c) (length log))
 
--- the same of a result that meets the run's promise
-pub small : (f log : List ℕ) (r : Ran) → r ≡ ranOf f log → (r .number ≤ 6) × (r .block ≤ 127)
-small f log r e = rw e (ran-low f log)
-
--- a detail in 56 bits
+-- a line's number in 56 bits
 pub line-most : (line : ℕ) → lineDetail line ≤ 72057594037927935
 line-most line = go (decLt line 72057594037927936)
   where

@@ -9,25 +9,23 @@ use native.Mathlib.Omega.{arith}
 use borrow.Author.Tests.{eqb-true, leb-true, eq-eqb, ne-eqb}
 use lib.ListN.{length, getD, take, drop, length-append}
 use lib.Dec.{eqb, leb}
-use Rattle.numbers.specs.Numbers.{inRange}
+use Rattle.numbers.specs.Numbers.{inRange, numberUnless, firstFound, rangeNumber}
 use Rattle.numbers.proofs.Below.{all-at}
+use Rattle.numbers.proofs.First.{found-both, unless-fine, range-in}
 use Rattle.schedule.specs.Types.{Ask, Step, Load, Store, Check, Reading, Refused, Accepted}
-use Rattle.schedule.specs.File.{number, checkOf, checkFine, placeFine, blockNumber, startN, startS, startV, laterBlocks, firstClear, firstFine, firstNumber, kind, process, value, kindFine, entryClear, entryFine, entryBy, noEntry, meant, count, entryBytes, entriesFine, restClear, laterFine, laterNumber, lengthFine, blockAt, blocksAfter, entriesTo, fileEntries, found, inTurn, acceptedAs, reading}
+use Rattle.schedule.specs.File.{number, checkOf, checkFine, placeFine, blockNumber, startN, startS, startV, laterBlocks, firstClear, firstRest, firstNumber, placeWith, kind, process, value, kindFine, entryClear, entryFine, entryBy, noEntry, meant, count, entryBytes, entriesFine, restClear, laterFine, laterNumber, lengthFine, blockAt, blocksAfter, entriesTo, fileEntries, found, foundInFirst, inTurn, acceptedAs, reading}
 use Rattle.schedule.specs.Direct.{isAccepted}
 use Rattle.schedule.specs.Direct.{usedPart, acceptedPart, entryAt}
 use Rattle.schedule.proofs.Laws.{part-length}
 use Rattle.schedule.proofs.Entries.{block-entries, block-entry, entry-stands, entry-bytes, part-bytes, used-is, used-entry}
 
 -- a block that no number refuses passes all three tests
-pub block-fine : (b : List ℕ) (k : ℕ) (fine : Bool) (n : ℕ) → 0 < n → blockNumber b k fine n ≡ 0
-    → (checkFine b ≡ true) × ((placeFine b k ≡ true) × (fine ≡ true))
-block-fine b k fine n pos = go (checkFine b) (placeFine b k) fine
-  where
-    go : (x y z : Bool) → cond (not x) 2 (cond (not y) 3 (cond (not z) n 0)) ≡ 0 → (x ≡ true) × ((y ≡ true) × (z ≡ true))
-    go true true true h = (refl, (refl, refl))
-    go true true false h = absurd (omega arith)
-    go true false z h = absurd (omega arith)
-    go false y z h = absurd (omega arith)
+pub block-fine : (b : List ℕ) (k rest : ℕ) → blockNumber b k rest ≡ 0 → (checkFine b ≡ true) × ((placeFine b k ≡ true) × (rest ≡ 0))
+block-fine b k rest h =
+    let place = numberUnless (placeFine b k) 3 in
+    let one = found-both (numberUnless (checkFine b) 2) (firstFound place rest) h in
+    let two = found-both place rest (one .1) in
+    (unless-fine (checkFine b) 2 (omega arith) (one .0), (unless-fine (placeFine b k) 3 (omega arith) (two .0), two .1))
 
 -- an entry of a kind that there is asks something of the process that its byte names
 pub meant-process : (e : List ℕ) → kindFine e ≡ true → meant e .process .0 ≡ process e
@@ -49,12 +47,12 @@ meant-process e fine =
 module _ (b : List ℕ) (k : ℕ) (ok : laterNumber b k ≡ 0) where
   later-fine : laterFine b ≡ true
   unfolding laterNumber
-  later-fine = block-fine b k (laterFine b) 5 (omega arith) ok .1 .1
+  later-fine = unless-fine (laterFine b) 5 (omega arith) (block-fine b k (numberUnless (laterFine b) 5) ok .1 .1)
 
   pub later-frame : (number 510 511 b ≡ checkOf b) × (number 0 1 b ≡ k)
   unfolding laterNumber
   later-frame =
-      let fine = block-fine b k (laterFine b) 5 (omega arith) ok in
+      let fine = block-fine b k (numberUnless (laterFine b) 5) ok in
       (eqb-true (number 510 511 b) (checkOf b) (fine .0), eqb-true (number 0 1 b) k (fine .1 .0))
 
   pub later-count : count b ≤ 42
@@ -93,16 +91,16 @@ length-blocks n h =
     (omega arith, omega arith)
 
 -- a number that was found ends the reading
-found-accepted : (n k : ℕ) (rest : Reading) → isAccepted (found n k rest) ≡ true → (n ≡ 0) × (isAccepted rest ≡ true)
-found-accepted n k rest = go (eqb n 0) (eqb-true n 0)
+found-accepted : (n k place : ℕ) (rest : Reading) → isAccepted (found n k place rest) ≡ true → (n ≡ 0) × (isAccepted rest ≡ true)
+found-accepted n k place rest = go (eqb n 0) (eqb-true n 0)
   where
-    go : (t : Bool) → (t ≡ true → n ≡ 0) → isAccepted (cond t rest (Refused n k)) ≡ true → (n ≡ 0) × (isAccepted rest ≡ true)
+    go : (t : Bool) → (t ≡ true → n ≡ 0) → isAccepted (cond t rest (Refused n k place)) ≡ true → (n ≡ 0) × (isAccepted rest ≡ true)
     go true z h = (z refl, h)
     go false z h = absurd (false≢true h)
 
 -- the later blocks in turn: one of them is refused, or the reading goes on to the next
 module _ (f : List ℕ) (k : ℕ) (rest : Reading) (number : ℕ) (is : number ≡ laterNumber (blockAt f k) k) where
-  pub turn-refused : (n : ℕ) → 0 < n → (number ≡ 0 → ⊥) → Refused number k ≡ inTurn f k n rest
+  pub turn-refused : (n : ℕ) → 0 < n → (number ≡ 0 → ⊥) → Refused number k 0 ≡ inTurn f k n rest
   unfolding inTurn
   turn-refused zero l h = absurd (omega arith)
   turn-refused (suc n) l h = rw (← is, ne-eqb number 0 h)
@@ -129,11 +127,11 @@ turn-accepted : (f : List ℕ) (k n : ℕ) (rest : Reading) → isAccepted (inTu
 unfolding inTurn
 turn-accepted f k zero rest h j l = absurd (omega arith)
 turn-accepted f k (suc n) rest h zero l =
-    rw (add-zero k) (found-accepted (laterNumber (blockAt f k) k) k (inTurn f (k + 1) n rest) h .0)
+    rw (add-zero k) (found-accepted (laterNumber (blockAt f k) k) k 0 (inTurn f (k + 1) n rest) h .0)
 turn-accepted f k (suc n) rest h (suc j) l =
     let e : k + suc j ≡ k + 1 + j = omega arith in
     rw e
-    (turn-accepted f (k + 1) n rest (found-accepted (laterNumber (blockAt f k) k) k (inTurn f (k + 1) n rest) h .1) j (omega arith))
+    (turn-accepted f (k + 1) n rest (found-accepted (laterNumber (blockAt f k) k) k 0 (inTurn f (k + 1) n rest) h .1) j (omega arith))
 
 -- an accepted file: its length, block 0, each later block, and what is answered
 module _ (f : List ℕ) (ok : isAccepted (reading f) ≡ true) where
@@ -142,9 +140,15 @@ module _ (f : List ℕ) (ok : isAccepted (reading f) ≡ true) where
   unfolding reading
   opened = go (lengthFine (length f)) ok
     where
-      go : (t : Bool) → isAccepted (cond (not t) (Refused 1 0) (found (firstNumber (blockAt f 0) (blocksAfter f)) 0 (inTurn f 1 (blocksAfter f) (acceptedAs f)))) ≡ true
-          → (t ≡ true) × ((firstNumber (blockAt f 0) (blocksAfter f) ≡ 0) × (isAccepted (inTurn f 1 (blocksAfter f) (acceptedAs f)) ≡ true))
-      go true h = (refl, found-accepted (firstNumber (blockAt f 0) (blocksAfter f)) 0 (inTurn f 1 (blocksAfter f) (acceptedAs f)) h)
+      number : ℕ
+      number = firstNumber (blockAt f 0) (blocksAfter f)
+
+      later : Reading
+      later = inTurn f 1 (blocksAfter f) (acceptedAs f)
+
+      go : (t : Bool) → isAccepted (cond (not t) (Refused 1 0 0) (foundInFirst (blockAt f 0) number later)) ≡ true
+          → (t ≡ true) × ((number ≡ 0) × (isAccepted later ≡ true))
+      go true h = (refl, found-accepted number 0 (placeWith number (blockAt f 0)) later h)
       go false h = absurd (false≢true h)
 
   pub accepted-length : (length f ≡ 512 * (blocksAfter f + 1)) × (blocksAfter f < 128)
@@ -240,7 +244,11 @@ pub accepted-start : (f : List ℕ) → isAccepted (reading f) ≡ true
 unfolding firstNumber
 accepted-start f ok =
     let b = blockAt f 0 in
-    let fine = block-fine b 0 (firstFine b (blocksAfter f)) 4 (omega arith) (accepted-first f ok) .1 .1 in
-    let parts = and-eq-true-iff (inRange (startN b) (record { 0 = startS b })) (eqb (laterBlocks b) (blocksAfter f) && firstClear b) .0 fine in
-    let whole = and-eq-true-iff (eqb (laterBlocks b) (blocksAfter f)) (firstClear b) .0 (parts .1) in
-    (parts .0, eqb-true (laterBlocks b) (blocksAfter f) (whole .0))
+    let range = rangeNumber (startN b) (record { 0 = startS b }) in
+    let count = numberUnless (eqb (laterBlocks b) (blocksAfter f)) 18 in
+    let rest = block-fine b 0 (firstRest b (blocksAfter f)) (accepted-first f ok) .1 .1 in
+    let parts = found-both range (firstFound count (numberUnless (firstClear b) 19)) rest in
+    let whole = found-both count (numberUnless (firstClear b) 19) (parts .1) in (
+      range-in (startN b) (record { 0 = startS b }) (parts .0),
+      eqb-true (laterBlocks b) (blocksAfter f) (unless-fine (eqb (laterBlocks b) (blocksAfter f)) 18 (omega arith) (whole .0)),
+    )

@@ -1,7 +1,7 @@
 -- Laws of the definitions, for the proofs beside this file and for the floors above.
 -- Assumes nothing.
 use mathlib.Core.Path.{_≡_, refl}
-use mathlib.Core.Bool.{Bool, true, false, cond, not, _&&_}
+use mathlib.Core.Bool.{_&&_}
 use mathlib.Core.List.{List}
 use Prim.Native.Nat.{ℕ, zero, suc, _+_, _*_, _≤_, _<_}
 use native.Mathlib.Nat.{zero-add, add-zero, add-suc, mul-zero, mul-suc, mul-le-mul}
@@ -53,8 +53,3 @@ weighed-past b n zero h = rw (add-zero n)
 weighed-past b n (suc m) h =
     let past : length b ≤ n + m = omega arith in
     rw (add-suc n m, weighed-past b n m h, List·getD-eq-default b 0 past, mul-zero (n + m + 1), add-zero)
-
--- a test that comes first: where it finds its number that is given, and else what comes after it
-pub test-first : (x : Bool) (m rest : ℕ) → 0 < m → cond (not x) m rest ≡ cond (eqb (cond (not x) m 0) 0) rest (cond (not x) m 0)
-test-first true m rest h = refl
-test-first false m rest h = rw (ne-eqb m 0 (λ e. omega arith))

@@ -3,3 +3,4 @@ pub mod Entries
 pub mod Accepted
 pub mod WorkedFile
 pub mod Low
+pub mod Header

@@ -6,14 +6,18 @@ use lib.ListN.{length, take, drop}
 use lib.Dec.{eqb, leb}
 use Rattle.numbers.specs.Numbers.{listBelow}
 use Rattle.schedule.specs.Types.{Reading, Refused, Accepted, FirstBlock, FirstRefused, Start, Entry, Block, BlockRefused, Entries}
-use Rattle.schedule.specs.File.{startN, startS, startV, firstNumber, count, laterNumber, noEntry, meant}
+use Rattle.schedule.specs.File.{startN, startS, startV, firstNumber, placeWith, count, laterNumber, noEntry, meant}
+
+-- block 0 is refused by this number, with the place that goes with it
+abbrev pub firstRefused : ℕ → List ℕ → FirstBlock
+firstRefused n b = FirstRefused n (placeWith n b)
 
 -- what block 0 says. A list that is not 512 bytes long is no block: by 1, as a file of such a length.
 unfoldable pub firstOf : List ℕ → ℕ → FirstBlock
 firstOf b after =
     cond (eqb (length b) 512)
-    (cond (eqb (firstNumber b after) 0) (Start (startN b) (startS b) (startV b)) (FirstRefused (firstNumber b after)))
-    (FirstRefused 1)
+    (cond (eqb (firstNumber b after) 0) (Start (startN b) (startS b) (startV b)) (firstRefused (firstNumber b after) b))
+    (FirstRefused 1 0)
 
 -- what a later block says. A list that is not 512 bytes long is no block: by 1, as a file of such a length.
 unfoldable pub laterOf : List ℕ → ℕ → Block
@@ -41,5 +45,5 @@ partEntries part n = listBelow n (λ j. entryAt part j)
 
 -- whether a reading is of an accepted file
 abbrev pub isAccepted : Reading → Bool
-isAccepted (Refused n k) = false
+isAccepted (Refused n k place) = false
 isAccepted (Accepted n s v c) = true

@@ -1,11 +1,11 @@
 -- Document 01, "The schedule file": what every block has, block 0, the blocks after it, the entries in them, and the file as a whole. A
--- byte is a number of a list; past the end of the list stand zeros.
+-- byte is a number of a list; past the end of the list stand zeros. Document 02, P2: the numbers of block 0.
 use Prim.Native.Nat.{ℕ, _+_, _-_, _*_, _%_, zero, suc, _/_}
 use mathlib.Core.Bool.{Bool, cond, not, _&&_, _||_}
 use mathlib.Core.List.{List, [], _++_}
 use lib.ListN.{getD, take, drop, length}
 use lib.Dec.{eqb, leb}
-use Rattle.numbers.specs.Numbers.{allBelow, numberAt, sumBelow, inRange, listBelow}
+use Rattle.numbers.specs.Numbers.{numberUnless, firstFound, rangeNumber, firstBelow, allBelow, numberAt, sumBelow, listBelow}
 use Rattle.schedule.specs.Types.{Entry, Kind, Ask, Step, Load, Store, Check, Reading, Refused, Accepted}
 
 -- the n bytes from place p on are zero
@@ -35,10 +35,10 @@ checkFine b = eqb (number 510 511 b) (checkOf b)
 abbrev pub placeFine : List ℕ → ℕ → Bool
 placeFine b k = eqb (number 0 1 b) k
 
--- "block 0 by 2, 3, 4; each later block in turn by 2, 3, 5": the number that refuses block k, or 0. What comes third is
--- whether the rest of the block is as it should be, and the number that is given where it is not.
-abbrev pub blockNumber : List ℕ → ℕ → Bool → ℕ → ℕ
-blockNumber b k fine n = cond (not (checkFine b)) 2 (cond (not (placeFine b k)) 3 (cond (not fine) n 0))
+-- "block 0 by 2, 3, ..; each later block in turn by 2, 3, ..": the number that refuses block k, or 0. What comes third is the number
+-- that the rest of the block gives, or 0.
+abbrev pub blockNumber : List ℕ → ℕ → ℕ → ℕ
+blockNumber b k rest = firstFound (numberUnless (checkFine b) 2) (firstFound (numberUnless (placeFine b k) 3) rest)
 
 -- "byte 2 is N, .. 4 to 7 S, 8 to 15 V, 16 and 17 the number of blocks after this one"
 abbrev pub startN : List ℕ → ℕ
@@ -57,14 +57,29 @@ laterBlocks b = number 16 17 b
 abbrev pub firstClear : List ℕ → Bool
 firstClear b = eqb (getD b 3 0) 0 && zeros 18 509 b
 
--- "4 | N or S out of range, block count not that of the file, or a stray byte in block 0": none of these, where `after` blocks
--- follow block 0 in the file
-abbrev pub firstFine : List ℕ → ℕ → Bool
-firstFine b after = inRange (startN b) (record { 0 = startS b }) && (eqb (laterBlocks b) after && firstClear b)
+-- Document 02, P2: "in this order, come 16 (N), 17 (S), 18 (block count) and 19 (a stray byte)", where `after` blocks follow block 0 in
+-- the file
+abbrev pub firstRest : List ℕ → ℕ → ℕ
+firstRest b after =
+    firstFound (rangeNumber (startN b) (record { 0 = startS b }))
+    (firstFound (numberUnless (eqb (laterBlocks b) after) 18) (numberUnless (firstClear b) 19))
 
 -- the number that refuses block 0 of a file, or 0
 unfoldable pub firstNumber : List ℕ → ℕ → ℕ
-firstNumber b after = blockNumber b 0 (firstFine b after) 4
+firstNumber b after = blockNumber b 0 (firstRest b after)
+
+-- the place of the first of the n bytes from place p on that is not zero, or 0
+unfoldable pub strayOf : List ℕ → ℕ → ℕ → ℕ
+strayOf b p n = firstBelow n (λ i. numberUnless (eqb (getD b (p + i) 0) 0) (p + i))
+
+-- "byte 3 zero, .. 18 to 509 zero": the place of the first stray byte of block 0, or 0
+abbrev pub firstStray : List ℕ → ℕ
+firstStray b = firstFound (numberUnless (eqb (getD b 3 0) 0) 3) (strayOf b 18 (509 + 1 - 18))
+
+-- "19 (a stray byte), the last with the place of the first such byte": the place that goes with a number of block 0, which is 0 with
+-- every other
+abbrev pub placeWith : ℕ → List ℕ → ℕ
+placeWith n b = cond (eqb n 19) (firstStray b) 0
 
 -- "Entry: byte 0 the kind (1 LL, 2 SC, 3 VL request, 4 step), byte 1 the process, .. 4 to 11 the value for SC"
 abbrev pub kind : List ℕ → ℕ
@@ -124,7 +139,7 @@ laterFine b = leb (count b) 42 && (entriesFine b (count b) && restClear b)
 
 -- the number that refuses block k of a file, where k is not 0, or 0
 unfoldable pub laterNumber : List ℕ → ℕ → ℕ
-laterNumber b k = blockNumber b k (laterFine b) 5
+laterNumber b k = blockNumber b k (numberUnless (laterFine b) 5)
 
 -- the entries of a block, in order
 unfoldable pub blockEntries : List ℕ → List Entry
@@ -150,22 +165,29 @@ entriesTo f (suc n) = entriesTo f n ++ blockEntries (blockAt f (suc n))
 abbrev pub fileEntries : List ℕ → List Entry
 fileEntries f = entriesTo f (blocksAfter f)
 
--- a number that was found in block k is given, with the block; where it is 0 nothing was found, and the reading goes on
-abbrev pub found : ℕ → ℕ → Reading → Reading
-found n k rest = cond (eqb n 0) rest (Refused n k)
+-- a number that was found in block k is given, with the block and the place; where it is 0 nothing was found, and the reading goes on
+abbrev pub found : ℕ → ℕ → ℕ → Reading → Reading
+found n k place rest = cond (eqb n 0) rest (Refused n k place)
 
 -- "each later block in turn": n blocks from block k on, and then the rest
 unfoldable pub inTurn : List ℕ → ℕ → ℕ → Reading → Reading
 inTurn f k zero rest = rest
-inTurn f k (suc n) rest = found (laterNumber (blockAt f k) k) k (inTurn f (k + 1) n rest)
+inTurn f k (suc n) rest = found (laterNumber (blockAt f k) k) k 0 (inTurn f (k + 1) n rest)
 
 -- what an accepted file says
 abbrev pub acceptedAs : List ℕ → Reading
 acceptedAs f = Accepted (startN (blockAt f 0)) (startS (blockAt f 0)) (startV (blockAt f 0)) (length (fileEntries f))
 
--- "Order for a file: 1; block 0 by 2, 3, 4; each later block in turn by 2, 3, 5; .. The first found is given."
-unfoldable pub reading : List ℕ → Reading
-reading f =
-    cond (not (lengthFine (length f))) (Refused 1 0)
-    (found (firstNumber (blockAt f 0) (blocksAfter f)) 0
+-- what block 0 is refused with, by the number that is found there, and the rest where none is
+abbrev pub foundInFirst : List ℕ → ℕ → Reading → Reading
+foundInFirst b n rest = found n 0 (placeWith n b) rest
+
+-- "Order for a file: 1; block 0 by ..; each later block in turn by 2, 3, 5; .. The first found is given.": with this number of block 0
+abbrev pub readingWith : ℕ → List ℕ → Reading
+readingWith n f =
+    cond (not (lengthFine (length f))) (Refused 1 0 0)
+    (foundInFirst (blockAt f 0) n
     (inTurn f 1 (blocksAfter f) (acceptedAs f)))
+
+unfoldable pub reading : List ℕ → Reading
+reading f = readingWith (firstNumber (blockAt f 0) (blocksAfter f)) f

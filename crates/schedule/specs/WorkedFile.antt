@@ -1,8 +1,9 @@
--- Document 01's full run as a file, and what the definitions say of it.
+-- Document 01's full run as a file, and what the definitions say of it; and files with a bad block 0.
 use mathlib.Core.Path.{_≡_}
 use mathlib.Core.List.{List, [], _∷_, _++_}
-use Prim.Native.Nat.{ℕ, _-_}
+use Prim.Native.Nat.{ℕ, _+_, _-_}
 use lib.ListN.{length, replicate}
+use Rattle.numbers.specs.Numbers.{bytesOf}
 use Rattle.schedule.specs.Types.{Entry, Ask, Step, Load, Store, Check, Refused, Accepted}
 use Rattle.schedule.specs.File.{checkOf, entryBy, blockAt, fileEntries, reading}
 
@@ -41,4 +42,28 @@ pub record FullRun : Type 0 where
   pub later-check : checkOf (blockAt (workedFile 131) 1) ≡ 5426
   pub accepted : reading (workedFile 131) ≡ Accepted 2 9 7 11
   pub entries : fileEntries (workedFile 131) ≡ workedEntries
-  pub oneByteOff : reading (workedFile 132) ≡ Refused 2 0
+  pub oneByteOff : reading (workedFile 132) ≡ Refused 2 0 0
+
+-- A file of block 0 alone: its place, N, S, how many blocks it says come after it, the bytes 3, 18 and 509, which should be zero, and
+-- what its check is off by.
+abbrev firstBytes : ℕ → ℕ → ℕ → ℕ → ℕ → ℕ → ℕ → List ℕ
+firstBytes place n s later third low high =
+    (place ∷ 0 ∷ n ∷ third ∷ s ∷ 0 ∷ 0 ∷ 0 ∷ 7 ∷ replicate 7 0) ++ (later ∷ 0 ∷ low ∷ replicate 490 0) ++ (high ∷ [])
+
+unfoldable pub firstFile : ℕ → ℕ → ℕ → ℕ → ℕ → ℕ → ℕ → ℕ → List ℕ
+firstFile off place n s later third low high =
+    let bytes = firstBytes place n s later third low high in
+    bytes ++ bytesOf 2 (checkOf bytes + off)
+
+-- "block 0 by 2, 3, ..", and "in this order, come 16 (N), 17 (S), 18 (block count) and 19 (a stray byte), the last with the place of the
+-- first such byte": each file has one thing wrong less than the one before it
+pub record FirstFiles : Type 0 where
+  pub all : reading (firstFile 1 1 0 1 1 1 1 1) ≡ Refused 2 0 0
+  pub fine-check : reading (firstFile 0 1 0 1 1 1 1 1) ≡ Refused 3 0 0
+  pub fine-place : reading (firstFile 0 0 0 1 1 1 1 1) ≡ Refused 16 0 0
+  pub fine-n : reading (firstFile 0 0 2 1 1 1 1 1) ≡ Refused 17 0 0
+  pub fine-s : reading (firstFile 0 0 2 9 1 1 1 1) ≡ Refused 18 0 0
+  pub fine-count : reading (firstFile 0 0 2 9 0 1 1 1) ≡ Refused 19 0 3
+  pub fine-3 : reading (firstFile 0 0 2 9 0 0 1 1) ≡ Refused 19 0 18
+  pub fine-18 : reading (firstFile 0 0 2 9 0 0 0 1) ≡ Refused 19 0 509
+  pub fine : reading (firstFile 0 0 2 9 0 0 0 0) ≡ Accepted 2 9 7 0

@@ -3,7 +3,9 @@ ghost use mathlib.Core.Path.{_≡_};
 ghost use Prim.Native.Nat.{_+_, _≤_, _<_};
 ghost use lib.ListN.{length};
 ghost use Rattle.numbers.specs.Numbers.{numberAt};
-ghost use Rattle.schedule.specs.File.{zerosOf};
+ghost use Rattle.schedule.specs.File.{zerosOf, strayOf};
+use numbers::first_found;
+use numbers::number_unless;
 use numbers::wide;
 
 // The number of the two bytes from place `at` on. Each further width is made of two halves.
@@ -52,4 +54,22 @@ pub(crate) fn clear(b: &[u8], at: usize, n: usize) -> bool
         i = i + 1;
     }
     sum == 0
+}
+
+// The place of the first of the `n` bytes from place `at` on that is not zero, or 0.
+pub(crate) fn stray(b: &[u8], at: usize, n: usize) -> usize
+    requires { ⌜ (at + n ≤ length (now b)) × (n ≤ 512) ⌝ }
+    ensures { λ r. ⌜ r ≡ strayOf (now (b .entry)) at n ⌝ }
+{
+    let mut found = 0;
+    let mut i = 0;
+    while i < n {
+        let place = at + i;
+        let x = b[place];
+        let clean = x == 0;
+        let this = number_unless(clean, place);
+        found = first_found(found, this);
+        i = i + 1;
+    }
+    found
 }

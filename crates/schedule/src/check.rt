@@ -1,11 +1,11 @@
 // What every block has: its check and its place.
 use crate::bytes::two;
+use numbers::first_found;
+use numbers::number_unless;
 use numbers::wide;
 ghost use mathlib.Core.Path.{_≡_};
-ghost use mathlib.Core.Bool.{cond, not};
 ghost use Prim.Native.Nat.{_≤_};
 ghost use lib.ListN.{length};
-ghost use lib.Dec.{eqb};
 ghost use Rattle.schedule.specs.File.{weighed, checkOf, blockNumber};
 
 // The sum over the first `end` places of (i + 1) times byte i, with nothing taken off on the way: for 510 places it stays
@@ -40,25 +40,10 @@ pub fn check_of(b: &[u8]) -> u32
     }
 }
 
-// The number for something that is not fine, or 0.
-pub(crate) fn number_unless(fine: bool, n: usize) -> usize
-    ensures { λ r. ⌜ r ≡ cond (not fine) n 0 ⌝ }
-{
-    if fine { 0 } else { n }
-}
-
-// The first of two numbers that was found: 0 stands for nothing found.
-pub(crate) fn first_found(a: usize, b: usize) -> usize
-    ensures { λ r. ⌜ r ≡ cond (eqb a 0) b a ⌝ }
-{
-    let none = a == 0;
-    if none { b } else { a }
-}
-
-// The number that refuses block k, or 0: its check, its place, and then the rest of it, which is fine or gives `n`.
-pub(crate) fn number_of(b: &[u8], k: usize, fine: bool, n: usize) -> usize
+// The number that refuses block k, or 0: its check, its place, and then what its rest gives.
+pub(crate) fn number_of(b: &[u8], k: usize, rest: usize) -> usize
     requires { ⌜ length (now b) ≡ 512 ⌝ }
-    ensures { λ r. ⌜ r ≡ blockNumber (now (b .entry)) k fine n ⌝ }
+    ensures { λ r. ⌜ r ≡ blockNumber (now (b .entry)) k rest ⌝ }
 {
     let stored = two(b, 510);
     let sum = check_of(b);
@@ -67,6 +52,5 @@ pub(crate) fn number_of(b: &[u8], k: usize, fine: bool, n: usize) -> usize
     let there = carried == k;
     let check = number_unless(right, 2);
     let place = number_unless(there, 3);
-    let rest = number_unless(fine, n);
     first_found(check, first_found(place, rest))
 }

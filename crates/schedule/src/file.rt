@@ -1,6 +1,7 @@
 // The file as a whole.
 use crate::Reading;
 use crate::block0::first_number;
+use crate::block0::place_with;
 use crate::bytes::eight;
 use crate::bytes::four;
 use crate::later::later_number;
@@ -54,6 +55,7 @@ fn read_later(file: &[u8], after: usize, n: u8, s: u64, v: u64) -> Reading
             return Reading::Refused {
                 number: number,
                 block: k,
+                place: 0,
             };
         }
         let c = wide(b[2]) as usize;
@@ -79,9 +81,11 @@ pub fn read_file(file: &[u8]) -> Reading
         let b = block_of(file, 0);
         let number = first_number(b, after);
         if number != 0 {
+            let place = place_with(number, b);
             return Reading::Refused {
                 number: number,
                 block: 0,
+                place: place,
             };
         }
         let n = b[2];
@@ -92,6 +96,7 @@ pub fn read_file(file: &[u8]) -> Reading
         Reading::Refused {
             number: 1,
             block: 0,
+            place: 0,
         }
     }
 }

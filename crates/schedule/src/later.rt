@@ -7,6 +7,7 @@ use crate::check::number_of;
 use numbers::Process;
 use numbers::both;
 use numbers::either;
+use numbers::number_unless;
 use numbers::wide;
 use step::Entry;
 use step::Kind;
@@ -75,7 +76,8 @@ pub(crate) fn later_number(b: &[u8], k: usize) -> usize
     ensures { λ r. ⌜ r ≡ laterNumber (now (b .entry)) k ⌝ }
 {
     let fine = later_fine(b);
-    number_of(b, k, fine, 5)
+    let rest = number_unless(fine, 5);
+    number_of(b, k, rest)
 }
 
 // Block k, where k is not 0.

@@ -15,9 +15,9 @@ pub use later::entry_at;
 pub use later::read_block;
 pub use later::used_entries;
 
-// What block 0 says: the number that refuses it, or N, S and V.
+// What block 0 says: the number that refuses it, with the place of the first stray byte or 0, or N, S and V.
 pub enum FirstBlock {
-    FirstRefused(usize),
+    FirstRefused { number: usize, place: usize },
     Start { n: u8, s: u64, v: u64 },
 }
 
@@ -27,11 +27,13 @@ pub enum Block {
     Entries(usize),
 }
 
-// What a whole file says: the number that refuses it with the block where it was found, or N, S, V and how many entries it has.
+// What a whole file says: the number that refuses it with the block where it was found and the place of the first stray byte or 0, or N,
+// S, V and how many entries it has.
 pub enum Reading {
     Refused {
         number: usize,
         block: usize,
+        place: usize,
     },
     Accepted {
         n: u8,

@@ -33,9 +33,14 @@ line-fits place note =
       decimal-length (note .value),
     ))
 
-pub refused-line-fits : (number block : ℕ) → length (refusedLine number block) ≤ 128
+pub refused-line-fits : (number block place : ℕ) → length (refusedLine number block place) ≤ 128
 unfolding refusedLine
-refused-line-fits number block = simp length-append (omega (arith, decimal-length number, decimal-length block))
+refused-line-fits number block place = go (eqb place 0)
+  where
+    go : (t : Bool)
+        → length (bytesIn "refused " ++ (field number space ++ (bytesIn "block " ++ cond t (field block newline) (field block space ++ (bytesIn "place " ++ field place newline))))) ≤ 128
+    go true = simp length-append (omega (arith, decimal-length number, decimal-length block))
+    go false = simp length-append (omega (arith, decimal-length number, decimal-length block, decimal-length place))
 
 pub refused-text-line-fits : (number line : ℕ) → length (refusedTextLine number line) ≤ 128
 unfolding refusedTextLine

@@ -10,4 +10,4 @@ use Rattle.text.specs.Worked.{WorkedRun}
 
 pub worked-run : WorkedRun
 unfolding headOf recordOf recordsOf logOf headIn noteIn headFound noteFound digitsOf decimalOf headLine lineOf refusedLine refusedTextLine linesFrom textOf
-worked-run = record { whole = refl; refusal = refl; textRefusal = refl; lineless = refl }
+worked-run = record { whole = refl; refusal = refl; placed = refl; textRefusal = refl; lineless = refl }

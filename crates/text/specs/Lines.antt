@@ -38,11 +38,15 @@ lineOf place note =
     ++ (field (note .process) space
     ++ (field (note .outcome) space ++ (field (note .steps) space ++ (field (note .mark) space ++ field (note .value) newline))))
 
--- "A refused file prints one line with its number and block, as `refused 2 block 0`."
-unfoldable pub refusedLine : ℕ → ℕ → List ℕ
-refusedLine number block = bytesIn "refused " ++ (field number space ++ (bytesIn "block " ++ field block newline))
+-- "A refused file prints one line with its number and block, as `refused 2 block 0`." Document 02, P2: the player prints the place
+-- "after the block", as `refused 19 block 0 place 18`; 0 stands for no place.
+unfoldable pub refusedLine : ℕ → ℕ → ℕ → List ℕ
+refusedLine number block place =
+    bytesIn "refused "
+    ++ (field number space
+    ++ (bytesIn "block " ++ cond (eqb place 0) (field block newline) (field block space ++ (bytesIn "place " ++ field place newline))))
 
--- A refused text prints `refused 25 line 3`; the other refusals of a text have no line, as `refused 4`.
+-- A refused text prints `refused 25 line 3`; the other refusals of a text have no line, as `refused 16`.
 unfoldable pub refusedTextLine : ℕ → ℕ → List ℕ
 refusedTextLine number line =
     bytesIn "refused "

@@ -43,6 +43,7 @@ workedText =
 
 pub record WorkedRun : Type 0 where
   pub whole : textOf workedLog ≡ workedText
-  pub refusal : refusedLine 2 0 ≡ bytesIn "refused 2 block 0\n"
+  pub refusal : refusedLine 2 0 0 ≡ bytesIn "refused 2 block 0\n"
+  pub placed : refusedLine 19 0 18 ≡ bytesIn "refused 19 block 0 place 18\n"
   pub textRefusal : refusedTextLine 25 3 ≡ bytesIn "refused 25 line 3\n"
-  pub lineless : refusedTextLine 4 0 ≡ bytesIn "refused 4\n"
+  pub lineless : refusedTextLine 16 0 ≡ bytesIn "refused 16\n"

@@ -48,14 +48,19 @@ fn put_line(out: &mut [u8], place: u32, note: Note) -> usize
     put_field(out, e, value, b'\n')
 }
 
-fn put_refused_line(out: &mut [u8], number: u32, block: u32) -> usize
+fn put_refused_line(out: &mut [u8], number: usize, block: usize, place: usize) -> usize
     requires { ⌜ 128 ≤ length (now out) ⌝ }
-    ensures { λ r. ⌜ (r ≡ length (refusedLine number block)) × (now (out .exit) ≡ sets (now (out .entry)) 0 (refusedLine number block)) ⌝ }
+    ensures { λ r. ⌜ (r ≡ length (refusedLine number block place)) × (now (out .exit) ≡ sets (now (out .entry)) 0 (refusedLine number block place)) ⌝ }
 {
     let a = put_word(out, 0, b"refused ");
     let b = put_field(out, a, number as u64, b' ');
     let c = put_word(out, b, b"block ");
-    put_field(out, c, block as u64, b'\n')
+    if place == 0 {
+        return put_field(out, c, block as u64, b'\n');
+    }
+    let d = put_field(out, c, block as u64, b' ');
+    let e = put_word(out, d, b"place ");
+    put_field(out, e, place as u64, b'\n')
 }
 
 fn put_refused_text_line(out: &mut [u8], number: u32, line: u64) -> usize
@@ -104,12 +109,13 @@ pub fn write_line(out: &mut [u8], place: u32, note: Note) -> usize
     }
 }
 
-pub fn write_refused_line(out: &mut [u8], number: u32, block: u32) -> usize
-    ensures { λ r. ⌜ (r ≡ printedCount (refusedLine number block) (now (out .entry)))
-        × (now (out .exit) ≡ printed (refusedLine number block) (now (out .entry))) ⌝ }
+// The line of a refused file; 0 stands for no place.
+pub fn write_refused_line(out: &mut [u8], number: usize, block: usize, place: usize) -> usize
+    ensures { λ r. ⌜ (r ≡ printedCount (refusedLine number block place) (now (out .entry)))
+        × (now (out .exit) ≡ printed (refusedLine number block place) (now (out .entry))) ⌝ }
 {
     if ROOM <= out.len() {
-        put_refused_line(out, number, block)
+        put_refused_line(out, number, block, place)
     } else {
         0
     }

@@ -2,14 +2,14 @@
 -- Assumes nothing.
 use Prim.Native.Nat.{ℕ, _+_, _*_, _≤_, _<_}
 use mathlib.Core.Path.{_≡_, refl, sym, ap, _∙_}
-use mathlib.Core.Bool.{Bool, true, false, cond, not}
+use mathlib.Core.Bool.{Bool, true, false, cond}
 use mathlib.Core.List.{List}
 use native.Mathlib.Decide.{decLt}
 use native.Mathlib.Omega.{arith}
 use borrow.Author.Tests.{le-leb, lt-leb, ne-eqb}
 use lib.Dec.{eqb, leb}
 use lib.ListN.{length}
-use Rattle.numbers.specs.Numbers.{inRange}
+use Rattle.numbers.specs.Numbers.{inRangeN, inRangeS, numberUnless, firstFound}
 use Rattle.log.specs.Log.{laid}
 use Rattle.log.proofs.Laws.{laid-short}
 use Rattle.writer.specs.Types.{Scanned, Written}
@@ -75,13 +75,15 @@ module _ (text out : List ℕ) where
 -- the number and the length are small
 pub number-most : (text : List ℕ) → textNumber text ≤ 26
 unfolding textNumber
-number-most text = go (eqb (outside text) 0) (inRange (textN text) (record { 0 = textS text })) (leb (length (textEntries text)) 5334)
+number-most text = go (eqb (outside text) 0) (inRangeN (textN text)) (inRangeS (record { 0 = textS text })) (leb (length (textEntries text)) 5334)
   where
-    go : (t u w : Bool) → cond (not t) 25 (cond (not u) 4 (cond (not w) 26 0)) ≤ 26
-    go false u w = omega arith
-    go true false w = omega arith
-    go true true false = omega arith
-    go true true true = omega arith
+    go : (t n s u : Bool)
+        → firstFound (numberUnless t 25) (firstFound (firstFound (numberUnless n 16) (numberUnless s 17)) (numberUnless u 26)) ≤ 26
+    go false n s u = omega arith
+    go true false s u = omega arith
+    go true true false u = omega arith
+    go true true true false = omega arith
+    go true true true true = omega arith
 
 pub written-low : (text out : List ℕ) → (writtenOf text out .number ≤ 27) × (writtenOf text out .length ≤ 65536)
 unfolding writtenOf

@@ -10,9 +10,10 @@ use native.Mathlib.Omega.{arith}
 use borrow.Author.Tests.{le-leb, lt-leb, leb-true, ne-eqb}
 use lib.Dec.{eqb, leb}
 use lib.ListN.{take, drop}
+use Rattle.numbers.specs.Numbers.{inRangeN, numberUnless, firstFound}
 use Rattle.text.specs.Decimal.{said}
 use Rattle.text.specs.Lines.{space}
-use Rattle.writer.specs.Types.{Numeral}
+use Rattle.writer.specs.Types.{Numeral, Opening}
 use Rattle.writer.specs.Form.{placeOf, before, behind, isNumeral, isValue, isProcess, headFine}
 use Rattle.writer.specs.Parts.{numeralOf, processOf, startIn, noStart, openingBy, openingOf}
 
@@ -81,6 +82,11 @@ store-fields a b e k = rw (e, k) (go (isProcess a) refl, (λ h. rw h), (λ h. rw
         let low = leb-true (said a) 255 (and-eq-true-iff (isNumeral a) (leb (said a) 255) .0 h .1) in
         rw (ne-eqb (said a) 256 (λ q. omega (arith, q, low)))
 
+-- the start by the number that refuses N and S
+abbrev startBy : ℕ → ℕ → ℕ → ℕ → Opening
+startBy number n s v =
+    cond (eqb number 0) (record { fine = true; number = 0; n = n; s = s; v = v }) (record { fine = true; number = number; n = 0; s = 0; v = 0 })
+
 -- a number of 2^64 or more, or 0 in its place: neither is an N or an S
 large-n : (x y z : ℕ) → startIn (cond (leb x 18446744073709551615) x 0) y z ≡ startIn x y z
 large-n x y z = go (decLt x 18446744073709551616)
@@ -92,10 +98,15 @@ large-n x y z = go (decLt x 18446744073709551616)
 large-s : (x y z : ℕ) → startIn x (cond (leb y 18446744073709551615) y 0) z ≡ startIn x y z
 large-s x y z = go (decLt y 18446744073709551616)
   where
+    same : (t : Bool) → startBy (firstFound (numberUnless t 16) 17) x 0 z ≡ startBy (firstFound (numberUnless t 16) 17) x y z
+    same true = refl
+    same false = refl
+
     go : Dec (y < 18446744073709551616) → startIn x (cond (leb y 18446744073709551615) y 0) z ≡ startIn x y z
     go (yes h) = rw (le-leb y 18446744073709551615 (omega (arith, h)))
     go (no h) =
-        rw (lt-leb y 18446744073709551615 (omega (arith, h)), lt-leb y 4294967295 (omega (arith, h)), and-false (leb 2 y), and-false (leb 1 x && leb x 16))
+        rw (lt-leb y 18446744073709551615 (omega (arith, h)), lt-leb y 4294967295 (omega (arith, h)), and-false (leb 2 y))
+        (same (inRangeN x))
 
 -- line one, by its three fields
 pub opening-by : (rest : List ℕ)

@@ -9,11 +9,12 @@ use native.Mathlib.Omega.{arith}
 use borrow.Author.Tests.{eq-eqb, le-leb}
 use lib.ListN.{length, getD, take, drop, replicate, length-append}
 use lib.Seq.{take-at, drop-append-add}
-use Rattle.numbers.specs.Numbers.{bytesOf, inRange}
+use Rattle.numbers.specs.Numbers.{bytesOf, inRange, numberUnless}
 use Rattle.numbers.proofs.Below.{all-intro, same-below, listed-all}
 use Rattle.numbers.proofs.Bytes.{number-back}
+use Rattle.numbers.proofs.First.{range-zero}
 use Rattle.numbers.proofs.Range.{range-of}
-use Rattle.schedule.specs.File.{zerosOf, checkOf, startN, startS, startV, laterBlocks, firstClear, firstFine, firstNumber, entryFine, entryBy, noEntry, meant, count, entryBytes, entriesFine, restClear, laterFine, laterNumber, blockEntries}
+use Rattle.schedule.specs.File.{zerosOf, checkOf, startN, startS, startV, laterBlocks, firstClear, firstRest, firstNumber, entryFine, entryBy, noEntry, meant, count, entryBytes, entriesFine, restClear, laterFine, laterNumber, blockEntries}
 use Rattle.writer.specs.Types.{Entry, Kind, Ask, Step, Load, Store, Check}
 use Rattle.writer.specs.Made.{kindByte, kindValue, entryMade, entriesMade, filled, sealed, firstFront, firstMade, laterFront, laterMade}
 use Rattle.writer.proofs.Sealed.{sealed-length, sealed-at, sealed-zeros, sealed-fine, sealed-back}
@@ -93,8 +94,8 @@ module _ (n s v after : ℕ) where
   unfolding firstNumber firstMade
   first-fine ranged h =
       let small : s < 4294967296 = omega (arith, range-of n (record { 0 = s }) ranged .last) in
-      sealed-fine (firstFront n s v after) (omega arith) 0 (firstFine (firstMade n s v after) after) 4 refl
-      (rw (first-n, first-s small, ranged, eq-eqb _ after (first-after h), first-clear))
+      sealed-fine (firstFront n s v after) (omega arith) 0 (firstRest (firstMade n s v after) after) refl
+      (rw (first-n, first-s small, range-zero n (record { 0 = s }) ranged, eq-eqb _ after (first-after h), first-clear))
 
 -- A later block of at most 42 entries: its count, its entries, and no number refuses it.
 module _ (k : ℕ) (es : List Entry) (few : length es ≤ 42) where
@@ -151,5 +152,5 @@ module _ (k : ℕ) (es : List Entry) (few : length es ≤ 42) where
   pub later-fine : k < 65536 → laterNumber (laterMade k es) k ≡ 0
   unfolding laterNumber laterMade
   later-fine h =
-      sealed-fine front room k (laterFine (laterMade k es)) 5 (number-back [] (length es ∷ 0 ∷ entriesMade es) 2 k ∙ mod-eq-of-lt h)
+      sealed-fine front room k (numberUnless (laterFine (laterMade k es)) 5) (number-back [] (length es ∷ 0 ∷ entriesMade es) 2 k ∙ mod-eq-of-lt h)
       (rw (rest-clear, later-count, le-leb (length es) 42 few, entries-fine))

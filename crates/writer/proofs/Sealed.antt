@@ -2,7 +2,7 @@
 -- Assumes nothing.
 use Prim.Native.Nat.{ℕ, zero, suc, _+_, _-_, _*_, _^_, _%_, _<_, _≤_}
 use mathlib.Core.Path.{_≡_, refl, ap, _∙_}
-use mathlib.Core.Bool.{Bool, true}
+use mathlib.Core.Bool.{true}
 use mathlib.Core.List.{List, [], _∷_, _++_}
 use native.Mathlib.Nat.{mod-lt, mod-eq-of-lt}
 use native.Mathlib.Omega.{arith}
@@ -78,8 +78,8 @@ module _ (first : List ℕ) (room : length first ≤ 510) where
       rw check-kept (rw filled-length at back)
 
   -- a sealed block with its place in bytes 0 and 1 is refused by no number, where the rest of it is as it should be
-  pub sealed-fine : (k : ℕ) (fine : Bool) (n : ℕ) → numberAt first 0 2 ≡ k → fine ≡ true → blockNumber (sealed first) k fine n ≡ 0
-  sealed-fine k fine n place e =
+  pub sealed-fine : (k rest : ℕ) → numberAt first 0 2 ≡ k → rest ≡ 0 → blockNumber (sealed first) k rest ≡ 0
+  sealed-fine k rest place e =
       rw (
         eq-eqb (number 510 511 (sealed first)) (checkOf (sealed first)) check-read,
         sealed-number 0 2 (omega arith),

@@ -2,14 +2,14 @@
 -- Assumes nothing.
 use Prim.Native.Nat.{ℕ, _+_, _≤_, _<_}
 use mathlib.Core.Path.{_≡_, refl}
-use mathlib.Core.Bool.{Bool, true, false, cond, not}
+use mathlib.Core.Bool.{Bool, true, false, cond}
 use mathlib.Core.List.{List}
 use native.Mathlib.Decide.{decLt}
 use native.Mathlib.Omega.{arith}
 use borrow.Author.Tests.{le-leb, lt-leb, ne-eqb}
 use lib.Dec.{eqb, leb}
 use lib.ListN.{length}
-use Rattle.numbers.specs.Numbers.{inRange}
+use Rattle.numbers.specs.Numbers.{numberUnless, firstFound, rangeNumber}
 use Rattle.text.specs.Decimal.{said}
 use Rattle.text.specs.Lines.{newline}
 use Rattle.writer.specs.Types.{Opening, Scanned}
@@ -20,11 +20,14 @@ use Rattle.writer.specs.Parts.{noStart, openingOf, passedOver, judged, w
 -- whether line one is in the form
 pub opening-fine : (line : List ℕ) → openingOf line .fine ≡ headFine line
 unfolding openingOf
-opening-fine line = go (headFine line) (inRange (said (fieldN line)) (record { 0 = said (fieldS line) }))
+opening-fine line = go (headFine line) (eqb number 0)
   where
+    number : ℕ
+    number = rangeNumber (said (fieldN line)) (record { 0 = said (fieldS line) })
+
     go : (t u : Bool)
-        → (cond t (cond u (record { fine = true; ranged = true; n = said (fieldN line); s = said (fieldS line); v = said (fieldV line) })
-        (record { fine = true; ranged = false; n = 0; s = 0; v = 0 })) noStart) .fine ≡ t
+        → (cond t (cond u (record { fine = true; number = 0; n = said (fieldN line); s = said (fieldS line); v = said (fieldV line) })
+        (record { fine = true; number = number; n = 0; s = 0; v = 0 })) noStart) .fine ≡ t
     go false u = refl
     go true false = refl
     go true true = refl
@@ -63,25 +66,35 @@ module _ (text : List ℕ) where
   pub scanned-judged : outside text ≡ 0 → headFine (lineOne text) ≡ true
       → scannedOf text ≡ judged (openingOf (lineOne text)) (placeOf newline text + 1) (length (textEntries text))
   unfolding scannedOf textNumber judged openingOf
-  scanned-judged e h = rw (e, h) (go (inRange (textN text) (record { 0 = textS text })) (leb count 5334))
+  scanned-judged e h = rw (e, h) (go (decLt 0 range) (leb count 5334))
     where
-      start : Bool → Opening
-      start t =
-          cond t (record { fine = true; ranged = true; n = textN text; s = textS text; v = textV text })
-          (record { fine = true; ranged = false; n = 0; s = 0; v = 0 })
+      range : ℕ
+      range = rangeNumber (textN text) (record { 0 = textS text })
 
       count : ℕ
       count = length (textEntries text)
 
-      go : (t u : Bool)
-          → cond (eqb (cond (not t) 4 (cond (not u) 26 0)) 0) (within text) (passedOver (cond (not t) 4 (cond (not u) 26 0)) 0)
-          ≡ cond (start t .ranged)
-          (cond u (record { number = 0; line = 0; from = placeOf newline text + 1; entries = count; n = start t .n; s = start t .s; v = start t .v })
+      start : ℕ → Opening
+      start number =
+          cond (eqb number 0) (record { fine = true; number = 0; n = textN text; s = textS text; v = textV text })
+          (record { fine = true; number = number; n = 0; s = 0; v = 0 })
+
+      rest : Bool → ℕ
+      rest u = firstFound range (numberUnless u 26)
+
+      go : Dec (0 < range) → (u : Bool)
+          → cond (eqb (rest u) 0) (within text) (passedOver (rest u) 0)
+          ≡ cond (eqb (start range .number) 0)
+          (cond u (record { number = 0; line = 0; from = placeOf newline text + 1; entries = count; n = start range .n; s = start range .s; v = start range .v })
           (passedOver 26 0))
-          (passedOver 4 0)
-      go false u = refl
-      go true false = refl
-      go true true = refl
+          (passedOver (start range .number) 0)
+      go (yes l) u = rw (ne-eqb range 0 (λ q. omega (arith, l, q)), ne-eqb range 0 (λ q. omega (arith, l, q)))
+      go (no l) true =
+          let z : range ≡ 0 = omega (arith, l) in
+          rw z
+      go (no l) false =
+          let z : range ≡ 0 = omega (arith, l) in
+          rw z
 
   -- what a scan says, by the number that refuses the text
   pub scanned-number : scannedOf text .number ≡ textNumber text

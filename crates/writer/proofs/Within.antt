@@ -2,13 +2,14 @@
 -- Assumes nothing.
 use Prim.Native.Nat.{ℕ, zero, suc, _≤_, _<_}
 use mathlib.Core.Path.{_≡_, refl}
-use mathlib.Core.Bool.{Bool, true, false, cond, not, _&&_, _||_, false≢true, and-eq-true-iff}
+use mathlib.Core.Bool.{Bool, true, false, cond, _&&_, _||_, false≢true, and-eq-true-iff}
 use mathlib.Core.List.{List, [], _∷_}
 use native.Mathlib.Omega.{arith}
 use borrow.Author.Tests.{eqb-true, leb-true, le-leb}
 use lib.Dec.{eqb, leb}
 use lib.ListN.{length, getD}
-use Rattle.numbers.specs.Numbers.{inRange}
+use Rattle.numbers.specs.Numbers.{inRange, numberUnless, firstFound, rangeNumber}
+use Rattle.numbers.proofs.First.{found-both, unless-fine, range-zero, range-in}
 use Rattle.text.specs.Decimal.{said}
 use Rattle.text.specs.Lines.{space, newline}
 use Rattle.schedule.specs.File.{noEntry}
@@ -79,16 +80,18 @@ pub number-parts : (text : List ℕ) → textNumber text ≡ 0
     → (outside text ≡ 0) × ((inRange (textN text) (record { 0 = textS text }) ≡ true) × (length (textEntries text) ≤ 5334))
 unfolding textNumber
 number-parts text h =
-    let three = go (eqb (outside text) 0) (inRange (textN text) (record { 0 = textS text })) (leb (length (textEntries text)) 5334) h in
-    (eqb-true (outside text) 0 (three .0), (three .1 .0, leb-true (length (textEntries text)) 5334 (three .1 .1)))
-  where
-    go : (a b c : Bool) → _≡_ {A = ℕ} (cond (not a) 25 (cond (not b) 4 (cond (not c) 26 0))) 0 → (a ≡ true) × ((b ≡ true) × (c ≡ true))
-    go true true true h = (refl, (refl, refl))
-    go true true false h = absurd (omega (arith, h))
-    go true false c h = absurd (omega (arith, h))
-    go false b c h = absurd (omega (arith, h))
+    let range = rangeNumber (textN text) (record { 0 = textS text }) in
+    let few = numberUnless (leb (length (textEntries text)) 5334) 26 in
+    let form = found-both (numberUnless (eqb (outside text) 0) 25) (firstFound range few) h in
+    let two = found-both range few (form .1) in (
+      eqb-true (outside text) 0 (unless-fine (eqb (outside text) 0) 25 (omega arith) (form .0)),
+      (
+        range-in (textN text) (record { 0 = textS text }) (two .0),
+        leb-true (length (textEntries text)) 5334 (unless-fine (leb (length (textEntries text)) 5334) 26 (omega arith) (two .1)),
+      ),
+    )
 
 pub number-zero : (text : List ℕ) → outside text ≡ 0 → inRange (textN text) (record { 0 = textS text }) ≡ true → length (textEntries text) ≤ 5334
     → textNumber text ≡ 0
 unfolding textNumber
-number-zero text none range few = rw (none, range, le-leb (length (textEntries text)) 5334 few)
+number-zero text none range few = rw (none, range-zero (textN text) (record { 0 = textS text }) range, le-leb (length (textEntries text)) 5334 few)

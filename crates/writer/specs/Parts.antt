@@ -4,7 +4,7 @@ use mathlib.Core.Bool.{true, false, cond, _&&_}
 use mathlib.Core.List.{List}
 use lib.Dec.{eqb, leb}
 use lib.ListN.{length, drop}
-use Rattle.numbers.specs.Numbers.{inRange}
+use Rattle.numbers.specs.Numbers.{rangeNumber}
 use Rattle.schedule.specs.File.{noEntry}
 use Rattle.text.specs.Decimal.{said}
 use Rattle.text.specs.Lines.{newline}
@@ -26,14 +26,14 @@ noLine = record { fine = false; entry = noEntry }
 unfoldable pub lineOf : List ℕ → Line
 lineOf line = record { fine = lineFine line; entry = entryIn line }
 
--- line one: whether it is in the form, whether N and S are in range, and then all three
+-- line one: whether it is in the form, the number that refuses N and S or 0, and then all three
 abbrev pub noStart : Opening
-noStart = record { fine = false; ranged = false; n = 0; s = 0; v = 0 }
+noStart = record { fine = false; number = 0; n = 0; s = 0; v = 0 }
 
 abbrev pub startIn : ℕ → ℕ → ℕ → Opening
 startIn n s v =
-    cond (inRange n (record { 0 = s })) (record { fine = true; ranged = true; n = n; s = s; v = v })
-    (record { fine = true; ranged = false; n = 0; s = 0; v = 0 })
+    let number = rangeNumber n (record { 0 = s }) in
+    cond (eqb number 0) (record { fine = true; number = 0; n = n; s = s; v = v }) (record { fine = true; number = number; n = 0; s = 0; v = 0 })
 
 -- by what its three fields say
 unfoldable pub openingBy : Numeral → Numeral → Numeral → Opening
@@ -61,9 +61,9 @@ passedOver number line = record { number = number; line = line; from = 0; entrie
 -- a text whose lines are all in the form, by what line one says, where the further lines begin and how many entries they ask for
 unfoldable pub judged : Opening → ℕ → ℕ → Scanned
 judged o from entries =
-    cond (o .ranged)
+    cond (eqb (o .number) 0)
     (cond (leb entries 5334) (record { number = 0; line = 0; from = from; entries = entries; n = o .n; s = o .s; v = o .v }) (passedOver 26 0))
-    (passedOver 4 0)
+    (passedOver (o .number) 0)
 
 abbrev pub within : List ℕ → Scanned
 within text =

@@ -34,17 +34,19 @@ pub record TextRun : Type 0 where
   pub large : outside (bytesIn "H 2 9 7\nS 1 18446744073709551615\nS 1 18446744073709551616\n") ≡ 3
   pub gap : outside (bytesIn "H 2 9 7\n\nL 1\n") ≡ 2
   pub second : outside (bytesIn "H 2 9 7\nL 1\nH 2 9 7\n") ≡ 3
-  -- a line outside the form comes before N or S out of range, however many digits they have; and then 27
+  -- a line outside the form comes before N or S out of range, however many digits they have, and N before S; and then 27
   pub before : textNumber (bytesIn "H 0 9 7\nL 1 \n") ≡ 25
-  pub ranged : textNumber (bytesIn "H 2 100000000000000000000009 7\nL 1\n") ≡ 4
+  pub ranged : textNumber (bytesIn "H 2 100000000000000000000009 7\nL 1\n") ≡ 17
+  pub longN : textNumber (bytesIn "H 18446744073709551618 9 7\n") ≡ 16
+  pub both : textNumber (bytesIn "H 17 1 7\n") ≡ 16
   pub short : writtenOf typedText [] ≡ turned 27 0
   -- beside each edge: processes, values, N, S, zero, a return for the newline, a newline alone, line one alone
   pub processes : Beside "H 2 9 7\nT 255\n" 0 "H 2 9 7\nT 256\n" 25
   pub values : Beside "H 2 9 18446744073709551615\n" 0 "H 2 9 18446744073709551616\n" 25
-  pub fewN : Beside "H 1 9 7\n" 0 "H 0 9 7\n" 4
-  pub manyN : Beside "H 16 9 7\n" 0 "H 17 9 7\n" 4
-  pub lowS : Beside "H 2 2 7\n" 0 "H 2 1 7\n" 4
-  pub highS : Beside "H 2 4294967295 7\n" 0 "H 2 4294967296 7\n" 4
+  pub fewN : Beside "H 1 9 7\n" 0 "H 0 9 7\n" 16
+  pub manyN : Beside "H 16 9 7\n" 0 "H 17 9 7\n" 16
+  pub lowS : Beside "H 2 2 7\n" 0 "H 2 1 7\n" 17
+  pub highS : Beside "H 2 4294967295 7\n" 0 "H 2 4294967296 7\n" 17
   pub zeros : Beside "H 2 9 0\n" 0 "H 2 9 00\n" 25
   pub ends : Beside "H 2 9 7\nV 1\n" 0 "H 2 9 7\nV 1\r\n" 25
   pub fewer : Beside "H 2 9 7\nS 1 0\n" 0 "H 2 9 7\nS 1\n" 25

@@ -1,22 +1,21 @@
--- Document 02, P1: what the writer answers, and what every byte of a lent output then is.
+-- Document 02, P1 and P2: what the writer answers, and what every byte of a lent output then is.
 use Prim.Native.Nat.{ℕ}
-use mathlib.Core.Bool.{cond, not}
+use mathlib.Core.Bool.{cond}
 use mathlib.Core.List.{List}
 use lib.Dec.{eqb, leb}
 use lib.ListN.{length}
-use Rattle.numbers.specs.Numbers.{inRange}
+use Rattle.numbers.specs.Numbers.{numberUnless, firstFound, rangeNumber}
 use Rattle.log.specs.Log.{laid}
 use Rattle.writer.specs.Types.{Written}
 use Rattle.writer.specs.Form.{outside, textN, textS, textV, textEntries}
 use Rattle.writer.specs.Made.{fileMade}
 
--- "25 with the number of the first line outside this form .., then 4 for N or S, 26 for more than 5,334 entries": the number that refuses
--- a text, or 0
+-- "25 with the number of the first line outside this form .., then .. N or S, 26 for more than 5,334 entries", and P2: "A direct start
+-- gives 16 or 17, and so does P1's writer": the number that refuses a text, or 0
 unfoldable pub textNumber : List ℕ → ℕ
 textNumber text =
-    cond (not (eqb (outside text) 0)) 25
-    (cond (not (inRange (textN text) (record { 0 = textS text }))) 4
-    (cond (not (leb (length (textEntries text)) 5334)) 26 0))
+    firstFound (numberUnless (eqb (outside text) 0) 25)
+    (firstFound (rangeNumber (textN text) (record { 0 = textS text })) (numberUnless (leb (length (textEntries text)) 5334) 26))
 
 -- the file of an accepted text
 abbrev pub textFile : List ℕ → List ℕ

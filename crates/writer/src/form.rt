@@ -13,7 +13,7 @@ use crate::find::place_from;
 use numbers::Process;
 use numbers::Sequence;
 use numbers::both;
-use numbers::in_range;
+use numbers::range_number;
 use step::Entry;
 use step::Kind;
 use step::Request;
@@ -132,7 +132,7 @@ fn no_start() -> Opening
 {
     Opening {
         fine: false,
-        ranged: false,
+        number: 0,
         n: 0,
         s: 0,
         v: 0,
@@ -148,12 +148,12 @@ fn open_with(n: Numeral, s: Numeral, v: Numeral) -> Opening
         let size = n.value as usize;
         let last = s.value;
         let value = v.value;
-        let range = in_range(size, Sequence(last));
-        if range {
+        let number = range_number(size, Sequence(last));
+        if number == 0 {
             let few = size as u8;
             return Opening {
                 fine: true,
-                ranged: true,
+                number: 0,
                 n: few,
                 s: last,
                 v: value,
@@ -161,7 +161,7 @@ fn open_with(n: Numeral, s: Numeral, v: Numeral) -> Opening
         }
         return Opening {
             fine: true,
-            ranged: false,
+            number: number,
             n: 0,
             s: 0,
             v: 0,

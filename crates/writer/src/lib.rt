@@ -25,10 +25,10 @@ pub struct Numeral {
     pub value: u64,
 }
 
-// What line one says: whether it is in the form, whether N and S are in range, and then all three.
+// What line one says: whether it is in the form, the number that refuses N and S or 0, and then all three.
 pub struct Opening {
     pub fine: bool,
-    pub ranged: bool,
+    pub number: usize,
     pub n: u8,
     pub s: u64,
     pub v: u64,

@@ -60,11 +60,12 @@ fn pass_over(number: usize, line: usize) -> Scanned
     }
 }
 
-// "then 4 for N or S, 26 for more than 5,334 entries": all lines are in the form.
+// "16 (N), 17 (S)", then "26 for more than 5,334 entries": all lines are in the form.
 fn judge(opening: Opening, from: usize, entries: usize) -> Scanned
     ensures { λ r. ⌜ r ≡ judged opening from entries ⌝ }
 {
-    let ranged = opening.ranged;
+    let number = opening.number;
+    let ranged = number == 0;
     let few = entries <= 5334;
     if ranged {
         if few {
@@ -83,7 +84,7 @@ fn judge(opening: Opening, from: usize, entries: usize) -> Scanned
         }
         return pass_over(26, 0);
     }
-    pass_over(4, 0)
+    pass_over(number, 0)
 }
 
 // A whole text.

@@ -1,20 +1,20 @@
--- Four comparisons, joined.
+-- Both tests, joined.
 -- Assumes nothing.
 use borrow.Author.Needs.{needs}
 use Rattle.numbers.proofs.in_range.Statement.{statement}
 use Rattle.numbers.proofs.in_range.Tie as tie
 
+n-in-range-requires : tie.Need-n-in-range-requires
+n-in-range-requires c κs = search needs
+
+s-in-range-requires : tie.Need-s-in-range-requires
+s-in-range-requires c κs = search needs
+
 both-requires : tie.Need-both-requires
 both-requires c κs = search needs
 
-both-requires-2 : tie.Need-both-requires-2
-both-requires-2 c κs = search needs
-
-both-requires-3 : tie.Need-both-requires-3
-both-requires-3 c κs = search needs
-
 returns : tie.Need-returns
-returns c = rw (c .both3 .ensures, c .before .both2 .ensures, c .before .before .both .ensures)
+returns c = rw (c .both .ensures, c .before .s-in-range .ensures, c .before .before .n-in-range .ensures)
 
 pub in-range-spec : {M : Type 1} → statement M
-in-range-spec = tie.close (tie.spec both-requires both-requires-2 both-requires-3 returns)
+in-range-spec = tie.close (tie.spec n-in-range-requires s-in-range-requires both-requires returns)

@@ -1,49 +1,43 @@
--- Number and detail are small, so the C number fits; both are the lister's.
+-- Number, block, place and length are small, so the C number fits; all are the lister's.
 -- Assumes nothing.
 use borrow.Author.Needs.{needs}
-use Prim.Native.Nat.{_≤_}
-use native.Mathlib.Omega.{arith}
 use denote.Ref.{now}
-use Rattle.lister.specs.Lister.{listedOf}
-use Rattle.lister.proofs.Answers.{listed-low}
-use Rattle.reefcapstan.proofs.Numbers.{detail-most}
+use native.Mathlib.Omega.{arith}
+use Rattle.lister.proofs.Answers.{ListedLow, listed-low}
 use Rattle.reefcapstan.proofs.reefcapstan_list.Statement.{statement}
 use Rattle.reefcapstan.proofs.reefcapstan_list.Tie as tie
+
+-- the bounds
+low : (c : tie.After-out) → ListedLow (c .before .list-file .result)
+low c =
+    let a = c .before .before .before .before .before .args in
+    rw (c .before .list-file .ensures .0) (listed-low (now (a .file)) (now (a .out)))
 
 list-file-requires : tie.Need-list-file-requires
 list-file-requires c κs = search needs
 
-detail-of-requires : tie.Need-detail-of-requires
-detail-of-requires c κs = search needs
+mul-done : tie.Need-mul-done
+mul-done c = omega (arith, low (c .before) .length)
 
--- the bounds of both
-low : (c : tie.After-detail-of) → (c .before .before .before .list-file .result .number ≤ 27) × (c .detail-of .result ≤ 72057594037927935)
-low c =
-    let got = listedOf (now (c .before .before .before .before .before .before .before .args .file)) (now (c .before .before .before .before .before .before .before .args .out)) in
-    let small = listed-low (now (c .before .before .before .before .before .before .before .args .file)) (now (c .before .before .before .before .before .before .before .args .out)) in (
-      rw (c .before .before .before .list-file .ensures .0) (small .0),
-      rw (c .detail-of .ensures, c .before .before .before .list-file .ensures .0) (detail-most (got .number) (got .length) (got .block) (omega (arith, small .2)) (omega (arith, small .1))),
-    )
+refusal-requires : tie.Need-refusal-requires
+refusal-requires c κs = (low (c .before) .number, low (c .before) .block, low (c .before) .place)
 
-mul-result : tie.Need-mul-result
-mul-result c = omega (arith, low c .1)
-
-add-result : tie.Need-add-result
-add-result c = omega (arith, low c .0, low c .1)
+by-number-requires : tie.Need-by-number-requires
+by-number-requires c κs = search needs
 
 same-length : tie.Need-same-length
 same-length c = search needs
 
 returns : tie.Need-returns
-returns c = (rw (c .detail-of .ensures, c .before .before .before .list-file .ensures .0), c .before .before .before .list-file .ensures .1)
+returns c = (rw (c .by-number .ensures, c .before .refusal .ensures .0, c .before .before .before .before .list-file .ensures .0), c .before .before .before .before .list-file .ensures .1)
 
 pub reefcapstan-list-spec : {M : Type 1} → statement M
 reefcapstan-list-spec =
     tie.close
     (tie.spec
     list-file-requires
-    detail-of-requires
-    mul-result
-    add-result
+    mul-done
+    refusal-requires
+    by-number-requires
     same-length
     returns)

@@ -17,16 +17,16 @@ write-text-requires c κs = search needs
 line-detail-requires : tie.Need-line-detail-requires
 line-detail-requires c κs = search needs
 
-detail-of-requires : tie.Need-detail-of-requires
-detail-of-requires c κs = search needs
+by-number-requires : tie.Need-by-number-requires
+by-number-requires c κs = search needs
 
 -- the bounds of both
-low : (c : tie.After-detail-of) → (c .before .before .before .before .write-text .result .number ≤ 27) × (c .detail-of .result ≤ 72057594037927935)
+low : (c : tie.After-by-number) → (c .before .before .before .before .write-text .result .number ≤ 27) × (c .by-number .result ≤ 72057594037927935)
 low c =
     let got = writtenOf (now (c .before .before .before .before .before .before .before .before .args .text)) (now (c .before .before .before .before .before .before .before .before .args .out)) in
     let small = written-low (now (c .before .before .before .before .before .before .before .before .args .text)) (now (c .before .before .before .before .before .before .before .before .args .out)) in (
       rw (c .before .before .before .before .write-text .ensures .0) (small .0),
-      rw (c .detail-of .ensures, c .before .line-detail .ensures, c .before .before .before .before .write-text .ensures .0) (detail-most (got .number) (got .length) (lineDetail (got .line)) (omega (arith, small .1)) (line-most (got .line))),
+      rw (c .by-number .ensures, c .before .line-detail .ensures, c .before .before .before .before .write-text .ensures .0) (detail-most (got .number) (got .length) (lineDetail (got .line)) (omega (arith, small .1)) (line-most (got .line))),
     )
 
 mul-result : tie.Need-mul-result
@@ -39,7 +39,7 @@ same-length : tie.Need-same-length
 same-length c = search needs
 
 returns : tie.Need-returns
-returns c = (rw (c .detail-of .ensures, c .before .line-detail .ensures, c .before .before .before .before .write-text .ensures .0), c .before .before .before .before .write-text .ensures .1)
+returns c = (rw (c .by-number .ensures, c .before .line-detail .ensures, c .before .before .before .before .write-text .ensures .0), c .before .before .before .before .write-text .ensures .1)
 
 pub reefcapstan-write-spec : {M : Type 1} → statement M
 reefcapstan-write-spec =
@@ -47,7 +47,7 @@ reefcapstan-write-spec =
     (tie.spec
     write-text-requires
     line-detail-requires
-    detail-of-requires
+    by-number-requires
     mul-result
     add-result
     same-length

@@ -5,15 +5,15 @@ use Rattle.schedule.specs.File.{firstNumber}
 use Rattle.schedule.proofs.block0.first_number.Statement.{statement}
 use Rattle.schedule.proofs.block0.first_number.Tie as tie
 
-first-fine-requires : tie.Need-first-fine-requires
-first-fine-requires c κs = search needs
+first-rest-requires : tie.Need-first-rest-requires
+first-rest-requires c κs = search needs
 
 number-of-requires : tie.Need-number-of-requires
 number-of-requires c κs = search needs
 
 returns : tie.Need-returns
 unfolding firstNumber
-returns c = rw (c .number-of .ensures, c .before .first-fine .ensures)
+returns c = rw (c .number-of .ensures, c .before .first-rest .ensures)
 
 pub first-number-spec : {M : Type 1} → statement M
-first-number-spec = tie.close (tie.spec first-fine-requires number-of-requires returns)
+first-number-spec = tie.close (tie.spec first-rest-requires number-of-requires returns)

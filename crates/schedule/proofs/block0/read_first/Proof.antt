@@ -13,9 +13,12 @@ returns c = rw (ne-eqb _ _ (c .if1 .taken))
 first-number-requires : tie.Need-first-number-requires
 first-number-requires c κs = search needs
 
+place-with-requires : tie.Need-place-with-requires
+place-with-requires c κs = search needs
+
 returns-2 : tie.Need-returns-2
 unfolding firstOf
-returns-2 c = rw (eq-eqb _ _ (c .before .before .if1 .left), ← c .before .first-number .ensures, ne-eqb _ _ (c .if2 .taken))
+returns-2 c = rw (eq-eqb _ _ (c .before .before .before .if1 .left), ← c .before .before .first-number .ensures, ne-eqb _ _ (c .before .if2 .taken), c .place-with .ensures)
 
 shared-slice-read-n : tie.Need-shared-slice-read-n
 shared-slice-read-n c = search needs
@@ -39,6 +42,7 @@ read-first-spec =
     (tie.spec
     returns
     first-number-requires
+    place-with-requires
     returns-2
     shared-slice-read-n
     four-requires

@@ -2,11 +2,6 @@
 -- the first found is given, in the definition's order.
 -- Assumes nothing.
 use borrow.Author.Needs.{needs}
-use native.Mathlib.Omega.{arith}
-use mathlib.Core.Bool.{cond, not}
-use denote.Ref.{now}
-use Rattle.schedule.specs.File.{checkFine, placeFine}
-use Rattle.schedule.proofs.Laws.{test-first}
 use Rattle.schedule.proofs.check.number_of.Statement.{statement}
 use Rattle.schedule.proofs.check.number_of.Tie as tie
 
@@ -28,9 +23,6 @@ number-unless-requires c κs = search needs
 number-unless-requires-2 : tie.Need-number-unless-requires-2
 number-unless-requires-2 c κs = search needs
 
-number-unless-requires-3 : tie.Need-number-unless-requires-3
-number-unless-requires-3 c κs = search needs
-
 first-found-requires : tie.Need-first-found-requires
 first-found-requires c κs = search needs
 
@@ -38,11 +30,7 @@ first-found-requires-2 : tie.Need-first-found-requires-2
 first-found-requires-2 c κs = search needs
 
 returns : tie.Need-returns
-returns c =
-    let a = c .before .before .before .before .before .before .before .before .before .args in
-    let rest = cond (not (a .fine)) (a .n) 0 in
-    let place = cond (not (placeFine (now (a .b)) (a .k))) 3 rest in
-    rw (c .first-found2 .ensures, c .before .first-found .ensures, c .before .before .number-unless3 .ensures, c .before .before .before .number-unless2 .ensures, c .before .before .before .before .number-unless .ensures, c .before .before .before .before .before .two2 .ensures .0, c .before .before .before .before .before .before .check-of .ensures, c .before .before .before .before .before .before .before .two .ensures .0, test-first (checkFine (now (a .b))) 2 place (omega arith), test-first (placeFine (now (a .b)) (a .k)) 3 rest (omega arith))
+returns c = rw (c .first-found2 .ensures, c .before .first-found .ensures, c .before .before .number-unless2 .ensures, c .before .before .before .number-unless .ensures, c .before .before .before .before .two2 .ensures .0, c .before .before .before .before .before .check-of .ensures, c .before .before .before .before .before .before .two .ensures .0)
 
 pub number-of-spec : {M : Type 1} → statement M
 number-of-spec =
@@ -54,7 +42,6 @@ number-of-spec =
     cast-carried
     number-unless-requires
     number-unless-requires-2
-    number-unless-requires-3
     first-found-requires
     first-found-requires-2
     returns)

@@ -46,9 +46,13 @@ block-of-requires c κs = search needs
 first-number-requires : tie.Need-first-number-requires
 first-number-requires c κs = whole c
 
+place-with-requires : tie.Need-place-with-requires
+place-with-requires c κs = whole (c .before .before)
+
+-- the place is looked for in the same block
 returns : tie.Need-returns
 unfolding reading
-returns c = rw (fine (c .before .before .before), ← number-is (c .before), ne-eqb _ _ (c .if2 .taken))
+returns c = rw (fine (c .before .before .before .before), ← number-is (c .before .before), ne-eqb _ _ (c .before .if2 .taken), c .place-with .ensures, c .before .before .before .block-of .ensures)
 
 shared-slice-read-n : tie.Need-shared-slice-read-n
 shared-slice-read-n c = omega (arith, whole (c .before .before .before))
@@ -81,6 +85,7 @@ read-file-spec =
     sub-after
     block-of-requires
     first-number-requires
+    place-with-requires
     returns
     shared-slice-read-n
     four-requires

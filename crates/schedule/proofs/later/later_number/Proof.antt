@@ -8,12 +8,15 @@ use Rattle.schedule.proofs.later.later_number.Tie as tie
 later-fine-requires : tie.Need-later-fine-requires
 later-fine-requires c κs = search needs
 
+number-unless-requires : tie.Need-number-unless-requires
+number-unless-requires c κs = search needs
+
 number-of-requires : tie.Need-number-of-requires
 number-of-requires c κs = search needs
 
 returns : tie.Need-returns
 unfolding laterNumber
-returns c = rw (c .number-of .ensures, c .before .later-fine .ensures)
+returns c = rw (c .number-of .ensures, c .before .number-unless .ensures, c .before .before .later-fine .ensures)
 
 pub later-number-spec : {M : Type 1} → statement M
-later-number-spec = tie.close (tie.spec later-fine-requires number-of-requires returns)
+later-number-spec = tie.close (tie.spec later-fine-requires number-unless-requires number-of-requires returns)

@@ -18,12 +18,12 @@ same-length c = search needs
 returns : tie.Need-returns
 returns c =
     let a = c .before .before .before .before .before .before .args in
-    line-printed (refusedLine (a .number) (a .block)) (now (a .out)) (omega (arith, c .before .before .before .before .if1 .taken)) (refused-line-fits (a .number) (a .block)) (c .before .before .put-refused-line .ensures)
+    line-printed (refusedLine (a .number) (a .block) (a .place)) (now (a .out)) (omega (arith, c .before .before .before .before .if1 .taken)) (refused-line-fits (a .number) (a .block) (a .place)) (c .before .before .put-refused-line .ensures)
 
 returns-2 : tie.Need-returns-2
 returns-2 c =
     let a = c .before .before .args in
-    line-refused (refusedLine (a .number) (a .block)) (now (a .out)) (omega (arith, c .if1 .left))
+    line-refused (refusedLine (a .number) (a .block) (a .place)) (now (a .out)) (omega (arith, c .if1 .left))
 
 pub write-refused-line-spec : {M : Type 1} → statement M
 write-refused-line-spec =

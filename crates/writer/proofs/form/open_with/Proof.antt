@@ -3,6 +3,8 @@
 use borrow.Author.Needs.{needs}
 use mathlib.Core.Path.{sym, _∙_}
 use native.Mathlib.Omega.{arith}
+use borrow.Author.Tests.{eq-eqb, ne-eqb}
+use Rattle.numbers.proofs.First.{range-in}
 use Rattle.numbers.proofs.Range.{range-of}
 use Rattle.writer.specs.Parts.{openingBy}
 use Rattle.writer.proofs.form.open_with.Statement.{statement}
@@ -14,21 +16,22 @@ both-requires c κs = search needs
 both-requires-2 : tie.Need-both-requires-2
 both-requires-2 c κs = search needs
 
-in-range-requires : tie.Need-in-range-requires
-in-range-requires c κs = search needs
+range-number-requires : tie.Need-range-number-requires
+range-number-requires c κs = search needs
 
 cast-few : tie.Need-cast-few
 cast-few c =
     let a = c .before .before .before .before .before .args in
-    omega (arith, range-of (a .n .value) (record { 0 = a .s .value }) (sym (c .before .in-range .ensures) ∙ c .if2 .taken) .few)
+    let none = range-in (a .n .value) (record { 0 = a .s .value }) (sym (c .before .range-number .ensures) ∙ c .if2 .taken) in
+    omega (arith, range-of (a .n .value) (record { 0 = a .s .value }) none .few)
 
 returns : tie.Need-returns
 unfolding openingBy
-returns c = rw (← c .before .before .before .before .both .ensures, ← c .before .before .before .both2 .ensures, c .before .before .if1 .taken, ← c .before .in-range .ensures, c .if2 .taken)
+returns c = rw (← c .before .before .before .before .both .ensures, ← c .before .before .before .both2 .ensures, c .before .before .if1 .taken, ← c .before .range-number .ensures, eq-eqb _ _ (c .if2 .taken))
 
 returns-2 : tie.Need-returns-2
 unfolding openingBy
-returns-2 c = rw (← c .before .before .before .before .both .ensures, ← c .before .before .before .both2 .ensures, c .before .before .if1 .taken, ← c .before .in-range .ensures, c .if2 .left)
+returns-2 c = rw (← c .before .before .before .before .both .ensures, ← c .before .before .before .both2 .ensures, c .before .before .if1 .taken, ← c .before .range-number .ensures, ne-eqb _ _ (c .if2 .left))
 
 no-start-requires : tie.Need-no-start-requires
 no-start-requires c κs = search needs
@@ -43,7 +46,7 @@ open-with-spec =
     (tie.spec
     both-requires
     both-requires-2
-    in-range-requires
+    range-number-requires
     cast-few
     returns
     returns-2

@@ -1,7 +1,7 @@
--- `schedule::check::first_found` meets its contract: the flag is the definition's test.
+-- The flag is the definition's test.
 -- Assumes nothing.
-use Rattle.schedule.proofs.check.first_found.Statement.{statement}
-use Rattle.schedule.proofs.check.first_found.Tie as tie
+use Rattle.numbers.proofs.first_found.Statement.{statement}
+use Rattle.numbers.proofs.first_found.Tie as tie
 
 returns : tie.Need-returns
 returns c = rw (c .if1 .taken)
