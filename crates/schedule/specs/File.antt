@@ -189,5 +189,6 @@ readingWith n f =
     (foundInFirst (blockAt f 0) n
     (inTurn f 1 (blocksAfter f) (acceptedAs f)))
 
+-- what a whole file says, with block 0 "by 2, 3", and then by P2's numbers
 unfoldable pub reading : List ℕ → Reading
 reading f = readingWith (firstNumber (blockAt f 0) (blocksAfter f)) f
