@@ -71,15 +71,6 @@ fn try_file(name: &[u8], file: &[u8], log: &mut [u8]) {
     }
 }
 
-// A file of block 0 alone.
-fn try_head(name: &[u8], n: u8, s: u8) {
-    let mut file = [0u8; 512];
-    let mut log = [0u8; 12];
-    lay_first(&mut file, n, s, 0);
-    seal(&mut file, 0);
-    try_file(name, &file, &mut log);
-}
-
 // Bytes of block 0 that should be zero.
 fn lay_stray(file: &mut [u8], third: u8, low: u8, high: u8)
     requires { ⌜ 512 ≤ length (now file) ⌝ }
@@ -90,7 +81,7 @@ fn lay_stray(file: &mut [u8], third: u8, low: u8, high: u8)
 }
 
 // A file of block 0 alone that counts `later` blocks after it, with these three bytes at the places 3, 18 and 509, which should be zero.
-fn try_stray(name: &[u8], n: u8, s: u8, later: u8, third: u8, low: u8, high: u8) {
+fn try_first(name: &[u8], n: u8, s: u8, later: u8, third: u8, low: u8, high: u8) {
     let mut file = [0u8; 512];
     let mut log = [0u8; 12];
     lay_first(&mut file, n, s, later);
@@ -101,13 +92,13 @@ fn try_stray(name: &[u8], n: u8, s: u8, later: u8, third: u8, low: u8, high: u8)
 
 // What block 0 is refused with, in order: each file has one thing wrong less than the one before it.
 fn try_order() {
-    try_stray(b"N 0, S 1, 1 later block, stray bytes: ", 0, 1, 1, 1, 1, 1);
-    try_stray(b"S 1, 1 later block, stray bytes: ", 2, 1, 1, 1, 1, 1);
-    try_stray(b"1 later block, stray bytes: ", 2, 9, 1, 1, 1, 1);
-    try_stray(b"stray bytes 3, 18, 509: ", 2, 9, 0, 1, 1, 1);
-    try_stray(b"stray bytes 18, 509: ", 2, 9, 0, 0, 1, 1);
-    try_stray(b"stray byte 509: ", 2, 9, 0, 0, 0, 1);
-    try_stray(b"no stray byte: ", 2, 9, 0, 0, 0, 0);
+    try_first(b"N 0, S 1, 1 later block, stray bytes: ", 0, 1, 1, 1, 1, 1);
+    try_first(b"S 1, 1 later block, stray bytes: ", 2, 1, 1, 1, 1, 1);
+    try_first(b"1 later block, stray bytes: ", 2, 9, 1, 1, 1, 1);
+    try_first(b"stray bytes 3, 18, 509: ", 2, 9, 0, 1, 1, 1);
+    try_first(b"stray bytes 18, 509: ", 2, 9, 0, 0, 1, 1);
+    try_first(b"stray byte 509: ", 2, 9, 0, 0, 0, 1);
+    try_first(b"no stray byte: ", 2, 9, 0, 0, 0, 0);
 }
 
 // Files of blocks without entries, as many as there may be and one more.
@@ -176,12 +167,12 @@ fn show_lines(log: &[u8], entries: u32) {
 
 fn main() {
     try_lengths();
-    try_head(b"length 512, no entries, N 2: ", 2, 9);
-    try_head(b"N 16: ", 16, 9);
-    try_head(b"N 0: ", 0, 9);
-    try_head(b"N 17: ", 17, 9);
-    try_head(b"S 1: ", 2, 1);
-    try_head(b"S 2: ", 2, 2);
+    try_first(b"length 512, no entries, N 2: ", 2, 9, 0, 0, 0, 0);
+    try_first(b"N 16: ", 16, 9, 0, 0, 0, 0);
+    try_first(b"N 0: ", 0, 9, 0, 0, 0, 0);
+    try_first(b"N 17: ", 17, 9, 0, 0, 0, 0);
+    try_first(b"S 1: ", 2, 1, 0, 0, 0, 0);
+    try_first(b"S 2: ", 2, 2, 0, 0, 0, 0);
     try_order();
     try_full_run();
 }

@@ -31,6 +31,7 @@ fn s_in_range(s: Sequence) -> bool
     both(two, last)
 }
 
+// Both.
 pub fn in_range(n: usize, s: Sequence) -> bool
     ensures { λ r. ⌜ r ≡ inRange n s ⌝ }
 {
