@@ -12,21 +12,6 @@ void compare_start(uint64_t seed)
     proved_arena = arena_make();
 }
 
-static bool same_logs(const struct lent *own, const struct lent *proved)
-{
-    char what[160];
-    size_t i = 0;
-    if (memcmp(own->bytes, proved->bytes, own->length) == 0) {
-        return true;
-    }
-    while (own->bytes[i] == proved->bytes[i]) {
-        i++;
-    }
-    snprintf(what, sizeof what, "the logs differ, first at byte %zu of %zu: reference %u, proved run %u", i, own->length,
-             own->bytes[i], proved->bytes[i]);
-    return complain(what);
-}
-
 static bool same_told(uint32_t own, uint32_t proved)
 {
     char what[160];
@@ -74,7 +59,7 @@ struct compared compare(const uint8_t *file, size_t file_len, size_t log_len, en
     at_work.by = "no one";
 
     same = same_told(own_told, proved_told) && same;
-    same = same_logs(&own, &proved) && same;
+    same = same_bytes("logs", &own, &proved) && same;
     same = untouched_if_refused(own_told, &own, before) && same;
     if (!same) {
         keep_file(file, file_len, index);

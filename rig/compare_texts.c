@@ -33,21 +33,6 @@ static bool same_answers(uint64_t own, uint64_t proved)
     return complain(what);
 }
 
-static bool same_outputs(const struct lent *own, const struct lent *proved)
-{
-    char what[160];
-    size_t i = 0;
-    if (memcmp(own->bytes, proved->bytes, own->length) == 0) {
-        return true;
-    }
-    while (own->bytes[i] == proved->bytes[i]) {
-        i++;
-    }
-    snprintf(what, sizeof what, "the outputs differ, first at byte %zu of %zu: reference %u, proved library %u", i,
-             own->length, own->bytes[i], proved->bytes[i]);
-    return complain(what);
-}
-
 /* After a refusal, and past what is written, the output keeps its bytes; said here apart from the comparison, as the
  * reference might err too. */
 static bool rest_untouched(uint64_t answer, const struct lent *out, const uint8_t *before)
@@ -95,7 +80,7 @@ struct job_done compare_job(const struct job *job, uint64_t index)
     at_work.by = "no one";
 
     same = same_answers(own_answer, proved_answer) && same;
-    same = same_outputs(&own, &proved) && same;
+    same = same_bytes("outputs", &own, &proved) && same;
     same = rest_untouched(own_answer, &own, before) && same;
     if (!same) {
         keep_file(job->in, job->in_len, index);

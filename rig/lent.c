@@ -97,3 +97,18 @@ bool complain(const char *what)
     }
     return false;
 }
+
+bool same_bytes(const char *which, const struct lent *own, const struct lent *proved)
+{
+    char what[160];
+    size_t i = 0;
+    if (memcmp(own->bytes, proved->bytes, own->length) == 0) {
+        return true;
+    }
+    while (own->bytes[i] == proved->bytes[i]) {
+        i++;
+    }
+    snprintf(what, sizeof what, "the %s differ, first at byte %zu of %zu: reference %u, proved library %u", which, i, own->length,
+             own->bytes[i], proved->bytes[i]);
+    return complain(what);
+}

@@ -46,4 +46,7 @@ bool complain(const char *what);
 /* Keeps an input for a later look, /tmp/rig-fail-INDEX.bin; only the first ten of a run. */
 void keep_file(const uint8_t *file, size_t file_len, uint64_t index);
 
+/* Whether two lent parts of one length hold the same bytes; where not, it is said which they are and where they first differ. */
+bool same_bytes(const char *which, const struct lent *own, const struct lent *proved);
+
 #endif

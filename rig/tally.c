@@ -190,14 +190,6 @@ void tally_print(const struct tally *t, bool samples)
     }
 }
 
-static size_t missing(const char *name, uint64_t count)
-{
-    if (count == 0) {
-        printf("FAILED: nothing of this kind was compared: %s\n", name);
-    }
-    return count == 0;
-}
-
 size_t tally_missing(const struct tally *t)
 {
     size_t none = 0;

@@ -97,3 +97,11 @@ const char *head_row_name(enum head_row row)
         "19, several of 18 to 509"};
     return row < HEAD_ROWS ? names[row] : "?";
 }
+
+size_t missing(const char *name, uint64_t count)
+{
+    if (count == 0) {
+        printf("FAILED: nothing of this kind was compared: %s\n", name);
+    }
+    return count == 0;
+}

@@ -36,4 +36,7 @@ const char *head_row_name(enum head_row row);
 /* Of a refused file, with what is told of it. */
 void tally_head(struct head_tally *t, const uint8_t *file, size_t file_len, uint32_t told);
 
+/* Whether nothing of a kind was met, which is then said: 1 or 0. */
+size_t missing(const char *name, uint64_t count);
+
 #endif

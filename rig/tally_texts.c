@@ -205,14 +205,6 @@ void text_tally_print(const struct text_tally *m)
     print_short(m);
 }
 
-static size_t missing(const char *name, uint64_t count)
-{
-    if (count == 0) {
-        printf("FAILED: nothing of this kind was compared: %s\n", name);
-    }
-    return count == 0;
-}
-
 size_t text_tally_missing(const struct text_tally *m)
 {
     size_t none = 0;
