@@ -32,14 +32,18 @@ fn seal_all(file: &mut [u8], blocks: usize)
     }
 }
 
-// Block 0 of a file with V 7.
-fn lay_first(file: &mut [u8], n: u8, s: u8, later: u8)
+// Block 0 of a file with V 7, which says that `later` blocks come after it; the last three bytes stand at the places 3, 18 and 509, where
+// they should be zero.
+fn lay_first(file: &mut [u8], n: u8, s: u8, later: u8, third: u8, low: u8, high: u8)
     requires { ⌜ 512 ≤ length (now file) ⌝ }
 {
     file[2] = n;
+    file[3] = third;
     file[4] = s;
     file[8] = 7;
     file[16] = later;
+    file[18] = low;
+    file[509] = high;
 }
 
 fn show(out: &[u8], n: usize) {
@@ -71,21 +75,11 @@ fn try_file(name: &[u8], file: &[u8], log: &mut [u8]) {
     }
 }
 
-// Bytes of block 0 that should be zero.
-fn lay_stray(file: &mut [u8], third: u8, low: u8, high: u8)
-    requires { ⌜ 512 ≤ length (now file) ⌝ }
-{
-    file[3] = third;
-    file[18] = low;
-    file[509] = high;
-}
-
-// A file of block 0 alone that counts `later` blocks after it, with these three bytes at the places 3, 18 and 509, which should be zero.
+// A file of block 0 alone.
 fn try_first(name: &[u8], n: u8, s: u8, later: u8, third: u8, low: u8, high: u8) {
     let mut file = [0u8; 512];
     let mut log = [0u8; 12];
-    lay_first(&mut file, n, s, later);
-    lay_stray(&mut file, third, low, high);
+    lay_first(&mut file, n, s, later, third, low, high);
     seal(&mut file, 0);
     try_file(name, &file, &mut log);
 }
@@ -106,7 +100,7 @@ fn try_lengths() {
     let mut file = [0u8; 66048];
     let mut log = [0u8; 12];
     try_file(b"length 0: ", &file[0..0], &mut log);
-    lay_first(&mut file, 2, 9, 127);
+    lay_first(&mut file, 2, 9, 127, 0, 0, 0);
     seal_all(&mut file, 129);
     try_file(b"length 65,536: ", &file[0..65536], &mut log);
     try_file(b"length 66,048: ", &file, &mut log);
@@ -136,7 +130,7 @@ fn try_full_run() {
     let mut file = [0u8; 1024];
     let mut log = [0u8; 144];
     let mut short = [0u8; 143];
-    lay_first(&mut file, 2, 9, 1);
+    lay_first(&mut file, 2, 9, 1, 0, 0, 0);
     lay_count(&mut file, 11);
     lay_entry(&mut file, 0, 1, 1, 0);
     lay_entry(&mut file, 1, 4, 1, 0);

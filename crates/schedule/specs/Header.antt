@@ -20,7 +20,7 @@ pub record FirstStrayAt (b : List ℕ) (place : ℕ) : Type 0 where
   pub stray : getD b place 0 ≢ 0
   pub first : (i : ℕ) → i < place → mustBeZero i ≡ true → getD b i 0 ≡ 0
 
--- the numbers that the reader refuses a file with: 4 is not among them (and a run gives 6 beside them)
+-- the numbers that a file is refused with when it is read: 4 is not among them, and 6 comes after the reading
 abbrev pub fileNumber : ℕ → Bool
 fileNumber n = eqb n 1 || (eqb n 2 || (eqb n 3 || (eqb n 5 || (leb 16 n && leb n 19))))
 

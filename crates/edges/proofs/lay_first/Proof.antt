@@ -18,6 +18,15 @@ slice-write-file-3 c = simp length-set (omega arith)
 slice-write-file-4 : tie.Need-slice-write-file-4
 slice-write-file-4 c = simp length-set (omega arith)
 
+slice-write-file-5 : tie.Need-slice-write-file-5
+slice-write-file-5 c = simp length-set (omega arith)
+
+slice-write-file-6 : tie.Need-slice-write-file-6
+slice-write-file-6 c = simp length-set (omega arith)
+
+slice-write-file-7 : tie.Need-slice-write-file-7
+slice-write-file-7 c = simp length-set (omega arith)
+
 same-length : tie.Need-same-length
 same-length c = search needs
 
@@ -32,5 +41,8 @@ lay-first-spec =
     slice-write-file-2
     slice-write-file-3
     slice-write-file-4
+    slice-write-file-5
+    slice-write-file-6
+    slice-write-file-7
     same-length
     returns)
