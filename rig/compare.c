@@ -1,5 +1,7 @@
 #include "compare.h"
 
+#include "marks.h"
+
 static struct arena file_arena;
 static struct arena own_arena;
 static struct arena proved_arena;
@@ -27,6 +29,21 @@ static bool same_told(uint32_t own, uint32_t proved)
 static bool untouched_if_refused(uint32_t told, const struct lent *log, const uint8_t *before)
 {
     return told == 0 || memcmp(log->bytes, before, log->length) == 0 || complain("a refused file changed the log");
+}
+
+/* The marks of an accepted file's log; said apart for the same reason. */
+static bool marks_hold(uint32_t told, const uint8_t *file, size_t file_len, const struct lent *log)
+{
+    char what[160];
+    if (told != 0) {
+        return true;
+    }
+    struct mark_fault fault = find_mark_fault(file, file_len, log->bytes);
+    if (fault.what == NULL) {
+        return true;
+    }
+    snprintf(what, sizeof what, "the reference's log, entry %u: %s", fault.place, fault.what);
+    return complain(what);
 }
 
 static bool lent_parts_hold(const struct lent *file, const uint8_t *given, const struct lent *log)
@@ -61,6 +78,7 @@ struct compared compare(const uint8_t *file, size_t file_len, size_t log_len, en
     same = same_told(own_told, proved_told) && same;
     same = same_bytes("logs", &own, &proved) && same;
     same = untouched_if_refused(own_told, &own, before) && same;
+    same = marks_hold(own_told, file, file_len, &own) && same;
     if (!same) {
         keep_file(file, file_len, index);
     }

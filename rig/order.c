@@ -1,5 +1,7 @@
 #include "order.h"
 
+#include "walk.h"
+
 /* From entries and records to calls. */
 
 struct open_call {
@@ -17,10 +19,9 @@ static void ask(struct open_call *open, uint32_t place, const uint8_t *entry)
     open->call.value = get64(entry + 4);
 }
 
-/* A store's second own step is step 8; when the call goes on after it, X has changed. */
 static void go_on(struct open_call *open, uint32_t place, const uint8_t *record)
 {
-    if (open->call.kind == KIND_STORE && record[2] == 2) {
+    if (changes_x(open->call.kind, record)) {
         open->changed = true;
         open->call.decided = place;
         open->call.answer = STORE_DONE;
@@ -77,16 +78,13 @@ static bool add_unanswered(struct history *h, const struct open_call *open)
 bool history_read(struct history *h, const uint8_t *file, size_t file_len, const uint8_t *log)
 {
     struct open_call open[PROCESSES] = {{.open = false}};
+    struct walk at = walk_of(file, file_len);
     uint32_t place = 0;
     h->first = get64(file + 8);
     h->calls = 0;
-    for (size_t b = 1; b < file_len / BLOCK; b++) {
-        const uint8_t *block = file + BLOCK * b;
-        for (size_t e = 0; e < block[2]; e++, place++) {
-            const uint8_t *record = log + LOG_HEAD + RECORD * (size_t)place;
-            if (!follow(h, open, place, block + ENTRIES_FROM + ENTRY * e, record)) {
-                return false;
-            }
+    for (const uint8_t *entry = next_entry(&at); entry != NULL; entry = next_entry(&at), place++) {
+        if (!follow(h, open, place, entry, record_at(log, place))) {
+            return false;
         }
     }
     return add_unanswered(h, open);

@@ -64,6 +64,13 @@ static void answered(struct private *own, enum outcome outcome, enum mark mark, 
     write_record(record, outcome, ++own->steps, mark, value);
 }
 
+/* The step was a load's last, 3 or 5. Straight after it the bench, not the step, looks at X. */
+static void load_answered(const struct machine *m, struct private *own, uint64_t value, uint8_t *record)
+{
+    enum mark mark = same_tag(m->x, own->kept) ? MARK_CURRENT : MARK_NOT_CURRENT;
+    answered(own, LOAD_ANSWERED, mark, value, record);
+}
+
 /* The row of the process that the kept tag names. */
 static const struct row *kept_row(const struct machine *m, const struct private *own)
 {
@@ -88,7 +95,7 @@ static void step_3(struct machine *m, struct private *own, uint8_t *record)
     int64_t old_number = kept_row(m, own)->old_number;
     int64_t k = (int64_t)tag_number(own->kept);
     if (old_number == k - 2 || old_number == k - 1) {
-        answered(own, LOAD_ANSWERED, MARK_CURRENT, own->value, record);
+        load_answered(m, own, own->value, record);
     } else {
         goes_on(own, LOAD_5, record);
     }
@@ -96,7 +103,7 @@ static void step_3(struct machine *m, struct private *own, uint8_t *record)
 
 static void step_5(struct machine *m, struct private *own, uint8_t *record)
 {
-    answered(own, LOAD_ANSWERED, MARK_OLD, kept_row(m, own)->old_value, record);
+    load_answered(m, own, kept_row(m, own)->old_value, record);
 }
 
 static void step_7(struct machine *m, struct private *own, uint32_t p, uint8_t *record)

@@ -1,4 +1,4 @@
-/* The bench of document 01 in plain C: state in place, nothing shared with the proved program. */
+/* The bench of documents 01 and 02 in plain C: state in place, nothing shared with the proved program. */
 #ifndef RIG_REFERENCE_H
 #define RIG_REFERENCE_H
 
@@ -62,7 +62,8 @@ static inline uint32_t told_place(uint32_t told)
     return told / 65536;
 }
 
-enum mark { MARK_NONE = 0, MARK_CURRENT = 1, MARK_OLD = 2 };
+/* Of an answered load: whether X equals the kept tag straight after the load's last step. */
+enum mark { MARK_NONE = 0, MARK_CURRENT = 1, MARK_NOT_CURRENT = 2 };
 
 /* Where a process stands in its call: the step that it takes next. */
 enum place { IDLE, LOAD_1, LOAD_2, LOAD_3, LOAD_5, STORE_7, STORE_8, STORE_9, STORE_10, CHECK_14 };

@@ -11,6 +11,7 @@
 #include "selftest.h"
 #include "speed.h"
 #include "tally.h"
+#include "walk.h"
 
 /* From so many files on, a kind of which there was none is a failure: the rig would not have looked where it says. */
 enum { ENOUGH = 10000 };
@@ -35,7 +36,7 @@ static bool check_order(uint64_t index, const struct compared *c)
     bool old = false;
     for (size_t i = 0; i < h.calls; i++) {
         unanswered |= h.call[i].answered == NEVER;
-        old |= h.call[i].kind == KIND_LOAD && c->log[LOG_HEAD + RECORD * (size_t)h.call[i].decided + 3] == MARK_OLD;
+        old |= by_step_5(record_at(c->log, h.call[i].decided));
     }
     tally.row[ROW_HISTORIES]++;
     tally.row[ROW_HISTORY_CALLS] += h.calls;

@@ -2,6 +2,7 @@
 
 #include "mutate.h"
 #include "tally_texts.h"
+#include "walk.h"
 
 /* From so many texts on, a kind of which there was none is a failure. */
 enum { ENOUGH_TEXTS = 2000 };
@@ -40,27 +41,11 @@ static struct job_done do_job(struct prng *r, struct job *job, uint64_t index)
     return d;
 }
 
-/* Where an entry stands in a file of any packing. */
-struct walk {
-    const uint8_t *block;
-    const uint8_t *end;
-    size_t entry;
-};
-
-static const uint8_t *next_entry(struct walk *w)
-{
-    while (w->block < w->end && w->entry == w->block[2]) {
-        w->block += BLOCK;
-        w->entry = 0;
-    }
-    return w->block < w->end ? w->block + ENTRIES_FROM + ENTRY * w->entry++ : NULL;
-}
-
 /* The same start and entries, however packed. */
 static bool same_schedule(const uint8_t *a, size_t a_len, const uint8_t *b, size_t b_len)
 {
-    struct walk in_a = {a + BLOCK, a + a_len, 0};
-    struct walk in_b = {b + BLOCK, b + b_len, 0};
+    struct walk in_a = walk_of(a, a_len);
+    struct walk in_b = walk_of(b, b_len);
     const uint8_t *of_a;
     const uint8_t *of_b;
     do {

@@ -2,6 +2,7 @@
 
 #include "compare.h"
 #include "compare_texts.h"
+#include "marks.h"
 #include "order.h"
 #include "test_head.h"
 #include "test_texts.h"
@@ -32,7 +33,7 @@ struct line {
 #define SC_NOT_DONE(p, v) ASK_SC(p, v), ON(p, 1), NOT_DONE(p)
 #define VL_NO(p) ASK(KIND_CHECK, p, 0), NO(p)
 
-/* Runs A to L, from document 01, "Runs beside each edge". */
+/* Runs A to L, from document 01, "Runs beside each edge"; the mark of run F from document 02. */
 static const struct line run_a[] = {LL(0, 7)};
 static const struct line run_b[] = {SC_NOT_DONE(1, 40)};
 static const struct line run_c[] = {VL_NO(0)};
@@ -40,7 +41,7 @@ static const struct line run_d[] = {LL(1, 7), SC_DONE(1, 40), SC_NOT_DONE(1, 41)
 static const struct line run_e[] = {LL(1, 7),  LL(0, 7),      SC_DONE(0, 20),
                                     LL(0, 20), SC_DONE(0, 7), SC_NOT_DONE(1, 99)};
 static const struct line run_f[] = {ASK_LL(1), ON(1, 1), LL(0, 7), ASK_SC(0, 20),
-                                    ON(0, 1),  ON(0, 2), ON(1, 2), LOADED(1, 3, 1, 7)};
+                                    ON(0, 1),  ON(0, 2), ON(1, 2), LOADED(1, 3, 2, 7)};
 static const struct line run_g[] = {LL(0, 7), ASK_SC(0, 20), ON(0, 1), ON(0, 2), LL(1, 20)};
 static const struct line run_h[] = {ASK_LL(1),     ON(1, 1), LL(0, 7), SC_DONE(0, 20), LL(0, 20),
                                     ASK_SC(0, 30), ON(0, 1), ON(1, 2), ON(1, 3),       LOADED(1, 4, 2, 7)};
@@ -51,6 +52,18 @@ static const struct line run_k[] = {ASK_LL(0), REFUSED(KIND_LOAD, 0, CALL_OPEN)}
 static const struct line run_l[] = {REFUSED(KIND_STEP, 2, NO_SUCH_PROCESS), REFUSED(KIND_STEP, 1, PROCESS_IDLE)};
 /* "The player and one full run". */
 static const struct line run_full[] = {LL(1, 7), SC_DONE(1, 40), VL_NO(0)};
+/* Beside run F: what comes between the load's step 1 and its answer by step 3, and what doesn't. */
+static const struct line not_done[] = {ASK_LL(1), ON(1, 1), SC_NOT_DONE(0, 20), ON(1, 2), LOADED(1, 3, 1, 7)};
+static const struct line one_step[] = {ASK_LL(1), ON(1, 1), LL(0, 7), ASK_SC(0, 20), ON(0, 1), ON(1, 2), LOADED(1, 3, 1, 7)};
+static const struct line at_last[] = {ASK_LL(1), ON(1, 1), LL(0, 7), ASK_SC(0, 20),
+                                      ON(0, 1),  ON(1, 2), ON(0, 2), LOADED(1, 3, 2, 7)};
+static const struct line too_late[] = {ASK_LL(1), ON(1, 1), LL(0, 7), ASK_SC(0, 20),
+                                       ON(0, 1),  ON(1, 2), LOADED(1, 3, 1, 7), ON(0, 2)};
+static const struct line same_value[] = {ASK_LL(1), ON(1, 1), LL(0, 7), ASK_SC(0, 7),
+                                         ON(0, 1),  ON(0, 2), ON(1, 2), LOADED(1, 3, 2, 7)};
+static const struct line same_number[] = {ASK_LL(0), ON(0, 1), LL(1, 7), SC_DONE(1, 20), ON(0, 2), LOADED(0, 3, 2, 7)};
+static const struct line same_process[] = {LL(1, 7), SC_DONE(1, 20), ASK_LL(0), ON(0, 1), LL(1, 20),
+                                           ASK_SC(1, 30), ON(1, 1), ON(1, 2), ON(1, 3), ON(0, 2), LOADED(0, 3, 2, 20)};
 
 struct run {
     const char *name;
@@ -68,8 +81,16 @@ static const struct run runs[] = {
     {"run G", 2, 9, 1, LINES(run_g)}, {"run H", 2, 9, 1, LINES(run_h)}, {"run I", 2, 9, 2, LINES(run_i)},
     {"run J", 1, 2, 1, LINES(run_j)}, {"run K", 2, 9, 0, LINES(run_k)}, {"run L", 2, 9, 0, LINES(run_l)},
     {"the full run", 2, 9, 1, LINES(run_full)},
+    {"a store not done since the load's step 1: mark 1", 2, 9, 0, LINES(not_done)},
+    {"a store that stands before its step 8: mark 1", 2, 9, 0, LINES(one_step)},
+    {"a store's step 8 straight before the load's step 3: mark 2", 2, 9, 1, LINES(at_last)},
+    {"a store's step 8 straight after the load's step 3: mark 1", 2, 9, 1, LINES(too_late)},
+    {"a store of the same value since the load's step 1: mark 2", 2, 9, 1, LINES(same_value)},
+    {"X of another process with the kept tag's number: mark 2", 2, 9, 1, LINES(same_number)},
+    {"X of the kept tag's process with another number: mark 2", 2, 9, 2, LINES(same_process)},
 };
-enum { RUNS = sizeof runs / sizeof runs[0], RUN_E = 4, RUN_H = 7, RUN_FULL = 12 };
+enum { RUN_A, RUN_B, RUN_C, RUN_D, RUN_E, RUN_F, RUN_G, RUN_H, RUN_I, RUN_J, RUN_K, RUN_L, RUN_FULL };
+enum { RUNS = sizeof runs / sizeof runs[0] };
 
 static size_t passed;
 static size_t failed;
@@ -131,11 +152,16 @@ static bool log_is(const struct run *run)
     return good;
 }
 
+static void play_run(const struct run *run)
+{
+    lay_run(run);
+    play(LOG_HEAD + RECORD * run->lines);
+}
+
 static void test_runs(void)
 {
     for (size_t i = 0; i < RUNS; i++) {
-        lay_run(&runs[i]);
-        play(LOG_HEAD + RECORD * runs[i].lines);
+        play_run(&runs[i]);
         note(runs[i].name, now.told == 0 && now.same && log_is(&runs[i]));
     }
     lay_run(&runs[RUN_FULL]);
@@ -276,8 +302,7 @@ static void test_every_byte(void)
 
 static void history_of_run(struct history *h, size_t run)
 {
-    lay_run(&runs[run]);
-    play(LOG_HEAD + RECORD * runs[run].lines);
+    play_run(&runs[run]);
     if (!history_read(h, now.file, now.length, now.log)) {
         h->calls = 0;
     }
@@ -301,7 +326,7 @@ static void test_orders_found(void)
         history_of_run(&h, i);
         all = all && finds(&h);
     }
-    note("runs A to L and the full run have an order", all);
+    note("runs A to L, the full run and those after it have an order", all);
 }
 
 /* The call of the given process and kind with the latest answer. */
@@ -326,13 +351,13 @@ static void test_wrong_runs(void)
     history_of_run(&h, RUN_E);
     last_call(&h, 1, KIND_STORE)->answer = STORE_DONE;
     note("run E with the last store done has no order", finds_none(&h));
-    history_of_run(&h, 3);
+    history_of_run(&h, RUN_D);
     last_call(&h, 1, KIND_STORE)->answer = STORE_DONE;
     note("run D with both stores done has no order", finds_none(&h));
-    history_of_run(&h, 2);
+    history_of_run(&h, RUN_C);
     last_call(&h, 0, KIND_CHECK)->answer = CHECK_YES;
     note("run C with the answer yes has no order", finds_none(&h));
-    history_of_run(&h, 0);
+    history_of_run(&h, RUN_A);
     last_call(&h, 0, KIND_LOAD)->value = 8;
     note("run A with the load answering 8 has no order", finds_none(&h));
 }
@@ -368,6 +393,47 @@ static void test_typed_histories(void)
     note("a store that fails though no one else stored has none", finds_none(&idle_loss));
 }
 
+/* The marks of a log: in the runs above they are right, as each comparison asks. A byte of a record made another is found. */
+
+struct changed_record {
+    const char *name;
+    size_t run;
+    uint32_t place; /* of the entry */
+    size_t byte;    /* 2 the own steps, 3 the mark, 4 the value's low byte */
+    uint8_t to;
+};
+
+static const struct changed_record changed_records[] = {
+    {"run A with mark 2", RUN_A, 3, 3, 2},
+    {"run A with no mark", RUN_A, 3, 3, 0},
+    {"run A with mark 3", RUN_A, 3, 3, 3},
+    {"run A with four own steps", RUN_A, 3, 2, 4},
+    {"run A with the load answering 8", RUN_A, 3, 4, 8},
+    {"run F with mark 1", RUN_F, 10, 3, 1},
+    {"run G with mark 2", RUN_G, 10, 3, 2},
+    {"run G with the load answering 7", RUN_G, 10, 4, 7},
+    {"run H with mark 1", RUN_H, 19, 3, 1},
+    {"run A with a mark of the request", RUN_A, 0, 3, 1},
+    {"run A with a mark of a step before the last", RUN_A, 2, 3, 1},
+    {"run D with a mark of the store done", RUN_D, 8, 3, 1},
+    {"run D with a mark of the store not done", RUN_D, 11, 3, 2},
+    {"run C with a mark of the check", RUN_C, 1, 3, 2},
+    {"run L with a mark of a refused entry", RUN_L, 1, 3, 1},
+};
+
+static void test_wrong_marks(void)
+{
+    char name[80];
+    for (size_t i = 0; i < sizeof changed_records / sizeof changed_records[0]; i++) {
+        const struct changed_record *c = &changed_records[i];
+        play_run(&runs[c->run]);
+        now.log[LOG_HEAD + RECORD * c->place + c->byte] = c->to;
+        struct mark_fault fault = find_mark_fault(now.file, now.length, now.log);
+        snprintf(name, sizeof name, "%s is found", c->name);
+        note(name, fault.what != NULL && fault.place == c->place);
+    }
+}
+
 int selftest(void)
 {
     printf("document 01's runs and lines, by the reference and by the proved run:\n");
@@ -381,6 +447,7 @@ int selftest(void)
     test_orders_found();
     test_wrong_runs();
     test_typed_histories();
+    test_wrong_marks();
     test_texts();
     printf("  %llu files were played by both\n", (unsigned long long)files_played);
     printf("%zu passed, %zu failed\n", passed, failed);

@@ -1,5 +1,7 @@
 #include "tally.h"
 
+#include "walk.h"
+
 void tally_sample(struct tally *t, const struct sample *f)
 {
     t->style[f->style]++;
@@ -22,12 +24,20 @@ static enum tally_row row_of_refusal(uint32_t number, uint32_t block, size_t blo
     }
 }
 
+static enum tally_row row_of_load(const uint8_t *record)
+{
+    if (by_step_5(record)) {
+        return ROW_LOADS_5;
+    }
+    return record[3] == MARK_CURRENT ? ROW_LOADS_3_CURRENT : ROW_LOADS_3_NOT_CURRENT;
+}
+
 static enum tally_row row_of_record(const uint8_t *record)
 {
     switch (record[0]) {
     case REQUEST_TAKEN: return ROW_REQUESTS;
     case STEP_TAKEN: return ROW_STEPS_ON;
-    case LOAD_ANSWERED: return record[3] == MARK_OLD ? ROW_LOADS_OLD : ROW_LOADS_CURRENT;
+    case LOAD_ANSWERED: return row_of_load(record);
     case STORE_DONE: return ROW_STORES_DONE;
     case STORE_NOT_DONE: return ROW_STORES_NOT_DONE;
     case CHECK_YES: return ROW_CHECKS_YES;
@@ -75,8 +85,8 @@ static void tally_log(struct tally *t, const uint8_t *log, size_t log_len)
     t->row[ROW_NO_ENTRIES] += entries == 0;
     t->row[ROW_ENTRIES_5334] += entries == MOST_ENTRIES;
     t->row[ROW_LOG_LONGER] += log_len > LOG_HEAD + RECORD * (size_t)entries;
-    for (size_t e = 0; e < entries; e++) {
-        t->row[row_of_record(log + LOG_HEAD + RECORD * e)]++;
+    for (uint32_t e = 0; e < entries; e++) {
+        t->row[row_of_record(record_at(log, e))]++;
     }
 }
 
@@ -131,8 +141,9 @@ static const char *const row_names[ROWS] = {
     "entries played",
     "requests taken",
     "steps, call goes on",
-    "loads answered by step 3",
-    "loads answered by step 5",
+    "loads answered by step 3, mark 1",
+    "loads answered by step 3, mark 2",
+    "loads answered by step 5, mark 2",
     "stores done",
     "stores not done",
     "checks yes",
