@@ -6,13 +6,17 @@ use mathlib.Core.List.{List, [], _∷_, _++_, map, map-append}
 use native.Mathlib.Omega.{arith}
 use lib.Dec.{ltb}
 use lib.ListN.{length, take, drop, length-append, length-drop, length-map}
-use Rattle.bench.specs.Types.{Process, Sequence, Version, Entry, Kind, Ask, Step, Stepped, Outcome, State, Answer}
+use borrow.Author.Tests.{ltb-true}
+use Rattle.bench.specs.Types.{Process, Sequence, Version, Tag, Record, Entry, Kind, Ask, Step, Stepped, State, Answer}
 use Rattle.step.specs.Steps.{sameTag, toldOf}
+use Rattle.numbers.proofs.Range.{range-of}
 use Rattle.machine.specs.State.{rowAt, recordAt}
 use Rattle.machine.specs.Entry.{rowGiven, withEntry}
 use Rattle.machine.specs.Parts.{seatOf, playedParts}
 use Rattle.machine.specs.Frame.{Ready}
-use Rattle.machine.specs.Run.{EntryNote, played, noteOf, notes, after, changeCount, stepsBy}
+use Rattle.machine.specs.Run.{EntryNote, played, noteOf, notes, after, changeCount, stepsBy, markBy}
+use Rattle.machine.proofs.Soundness.{sure}
+use Rattle.machine.proofs.Writers.{record-same}
 use Rattle.machine.proofs.RunLaws.{ready-after, after-append, notes-append, count-append, size-kept, notes-length, count-most}
 use Rattle.machine.proofs.PartsOfRun.{seat, given, played-by-parts, seat-within, given-within}
 use Rattle.schedule.specs.Direct.{entryAt, partEntries}
@@ -23,7 +27,8 @@ use Rattle.log.proofs.Laws.{record-length, records-length, records-more, grown}
 use Rattle.bench.specs.Play.{recordFrom, playedFrom, recordsFrom}
 use Rattle.bench.specs.Bench.{inLog}
 
--- The record that is written is the note of the run: where the process is not there, no steps are counted whatever the place.
+-- The record that is written is the note of the run: where the process is not there, no steps are counted whatever the place, and no mark is
+-- given whatever the tags.
 module _ (st : State) (e : Entry) (h : Ready st) where
   abbrev left : Stepped
   left = playedParts (st .n) (st .s) (e .process) (st .x) (recordAt st (seat st e .0)) (rowAt st (given st e .0)) (e .kind)
@@ -36,25 +41,46 @@ module _ (st : State) (e : Entry) (h : Ready st) where
   steps-same false (Ask request) t = refl
   steps-same false Step t = rw t
 
-  pub note-written : inLog (noteOf st e) ≡ recordFrom (e .process .0) (e .kind) (recordAt st (seat st e .0) .place) (left .outcome)
-  note-written =
-      let out : played st e .outcome ≡ left .outcome = ap (λ (a : Answer). a .outcome) (played-by-parts st e h) in
-      ap (λ (o : Outcome). recordFrom (e .process .0) (e .kind) (recordAt st (e .process .0) .place) o) out
-      ∙ ap (λ (k : ℕ). counted k) (sym (steps-same (ltb (e .process .0) (st .n)) (e .kind) refl))
+  -- where an entry leads
+  pub state-left : played st e .state ≡ withEntry st (seat st e) (given st e) left
+  state-left = ap (λ (a : Answer). a .state) (played-by-parts st e h)
+
+  -- 11 has no mark, whatever the tags
+  no-mark : ltb (e .process .0) (st .n) ≡ false → (x x′ kept kept′ : Tag) → markBy (toldOf (left .outcome) .number) x kept ≡ markBy (toldOf (left .outcome) .number) x′ kept′
+  unfolding playedParts
+  no-mark t x x′ kept kept′ = rw t
+
+  -- the mark goes by the kept tag of the record that is written back
+  mark-same : markBy (toldOf (left .outcome) .number) (left .x) (recordAt (withEntry st (seat st e) (given st e) left) (e .process .0) .kept)
+      ≡ markBy (toldOf (left .outcome) .number) (left .x) (left .own .kept)
+  mark-same = go (ltb (e .process .0) (st .n)) refl
     where
-      counted : ℕ → log.Note
-      counted k =
+      go : (b : Bool) → ltb (e .process .0) (st .n) ≡ b
+          → markBy (toldOf (left .outcome) .number) (left .x) (recordAt (withEntry st (cond b (e .process) (record { 0 = 0 })) (given st e) left) (e .process .0) .kept)
+          ≡ markBy (toldOf (left .outcome) .number) (left .x) (left .own .kept)
+      go true t =
+          ap (λ (r : Record). markBy (toldOf (left .outcome) .number) (left .x) (r .kept))
+          (record-same st (e .process) (given st e) left
+          (omega (arith, ltb-true (e .process .0) (st .n) t, range-of (st .n) (st .s) (sure h .range) .few, h .full .records)))
+      go false t = no-mark t (left .x) (left .x) _ (left .own .kept)
+
+  pub note-written : inLog (noteOf st e) ≡ recordFrom (e .process .0) (e .kind) (recordAt st (seat st e .0) .place) (left .outcome) (left .x) (left .own .kept)
+  note-written =
+      ap (λ (a : Answer). recordFrom (e .process .0) (e .kind) (recordAt st (e .process .0) .place) (a .outcome) (a .state .x) (recordAt (a .state) (e .process .0) .kept))
+      (played-by-parts st e h)
+      ∙ ap (λ (k : ℕ). counted k (markBy (toldOf (left .outcome) .number) (left .x) (recordAt (withEntry st (seat st e) (given st e) left) (e .process .0) .kept)))
+      (sym (steps-same (ltb (e .process .0) (st .n)) (e .kind) refl))
+      ∙ ap (counted _) mark-same
+    where
+      counted : ℕ → ℕ → log.Note
+      counted steps mark =
           record {
             outcome = toldOf (left .outcome) .number;
             process = e .process .0;
-            steps = k;
-            mark = toldOf (left .outcome) .mark;
+            steps = steps;
+            mark = mark;
             value = toldOf (left .outcome) .value;
           }
-
-  -- where an entry leads, and whether X changed
-  pub state-left : played st e .state ≡ withEntry st (seat st e) (given st e) left
-  state-left = ap (λ (a : Answer). a .state) (played-by-parts st e h)
 
   pub change-counted : changeCount (noteOf st e ∷ []) ≡ cond (not (sameTag (st .x) (left .x))) 1 0
   unfolding changeCount
@@ -113,7 +139,7 @@ module _ {part rest₀ : List ℕ} {n : ℕ} {s : Sequence} {end : ℕ} {st₀ :
       → (e : Entry) → e ≡ entryAt part j
       → (i q : Process) → i ≡ seatOf n (e .process) → q ≡ rowGiven i (recordAt st (i .0)) (e .kind)
       → (m : Stepped) → m ≡ playedParts n s (e .process) (st .x) (recordAt st (i .0)) (rowAt st (q .0)) (e .kind)
-      → (note : log.Note) → note ≡ recordFrom (e .process .0) (e .kind) (recordAt st (i .0) .place) (m .outcome)
+      → (note : log.Note) → note ≡ recordFrom (e .process .0) (e .kind) (recordAt st (i .0) .place) (m .outcome) (m .x) (m .own .kept)
       → (changes′ : Version) → changes′ .0 ≡ changes .0 + cond (not (sameTag (st .x) (m .x))) 1 0
       → (back : List ℕ) → back ≡ laid (recordOf note) (take (length rest - 12 * j) (drop (12 * j) rest))
       → Turn part rest₀ n s end st₀ changes₀ (take (12 * j) rest ++ (back ++ drop (length rest - 12 * j) (drop (12 * j) rest))) (withEntry st i q m) changes′ (j + 1)

@@ -4,18 +4,18 @@ use mathlib.Core.List.{List, _++_, map}
 use lib.ListN.{length, drop}
 use Rattle.step.specs.Steps.{toldOf}
 use Rattle.bench.specs.Bench.{inLog}
-use Rattle.bench.specs.Types.{Entry, Kind, Place, Outcome, Note, Played}
-use Rattle.machine.specs.Run.{stepsBy, notes, after, changeCount}
+use Rattle.bench.specs.Types.{Entry, Kind, Place, Outcome, Tag, Note, Played}
+use Rattle.machine.specs.Run.{stepsBy, markBy, notes, after, changeCount}
 use Rattle.log.specs.Log.{recordsOf}
 
--- the record of an entry of process p, from the place before it and its outcome
-abbrev pub recordFrom : ℕ → Kind → Place → Outcome → Note
-recordFrom p kind place outcome =
+-- the record of an entry of process p, from the place before it, its outcome, and X and p's kept tag after it
+abbrev pub recordFrom : ℕ → Kind → Place → Outcome → Tag → Tag → Note
+recordFrom p kind place outcome x kept =
     record {
       outcome = toldOf outcome .number;
       process = p;
       steps = stepsBy place kind outcome;
-      mark = toldOf outcome .mark;
+      mark = markBy (toldOf outcome .number) x kept;
       value = toldOf outcome .value;
     }
 

@@ -7,7 +7,9 @@ pub use Rattle.step.specs.declared.Kind.{Kind}
 pub use Rattle.step.specs.declared.Kind.the-variants.{Ask, Step}
 pub use Rattle.step.specs.declared.Outcome.{Outcome}
 pub use Rattle.step.specs.declared.Place.{Place}
+pub use Rattle.step.specs.declared.Record.{Record}
 pub use Rattle.step.specs.declared.Stepped.{Stepped}
+pub use Rattle.step.specs.declared.Tag.{Tag}
 pub use Rattle.machine.specs.declared.Answer.{Answer}
 pub use Rattle.machine.specs.declared.Start.{Start}
 pub use Rattle.machine.specs.declared.Started.{Started}

@@ -3,6 +3,7 @@ ghost use mathlib.Core.Path.{_≡_};
 ghost use mathlib.Core.Bool.{cond, not};
 ghost use Prim.Native.Nat.{_+_, _<_};
 ghost use Rattle.step.specs.Steps.{sameTag};
+ghost use Rattle.machine.specs.Run.{markBy};
 ghost use Rattle.bench.specs.Play.{recordFrom};
 use log::Note;
 use machine::parts::steps_by;
@@ -14,14 +15,26 @@ use step::Tag;
 use step::answer::tell;
 use step::number::same_tag;
 
-// The log's record of an entry whose process stood at `place` and that came to `outcome`.
-pub fn note_of(process: u8, kind: Kind, place: Place, outcome: Outcome) -> Note
-    ensures { λ r. ⌜ r ≡ recordFrom process kind place outcome ⌝ }
+// The mark beside the number of an outcome: of an answered load, whether X is still the kept tag. Both are taken after the entry.
+fn mark_by(number: u8, x: Tag, kept: Tag) -> u8
+    ensures { λ r. ⌜ r ≡ markBy number x kept ⌝ }
+{
+    if number == 2 {
+        if same_tag(x, kept) { 1 } else { 2 }
+    } else {
+        0
+    }
+}
+
+// The log's record of an entry whose process stood at `place`, that came to `outcome`, and after which X and the process's kept tag
+// are these.
+pub fn note_of(process: u8, kind: Kind, place: Place, outcome: Outcome, x: Tag, kept: Tag) -> Note
+    ensures { λ r. ⌜ r ≡ recordFrom process kind place outcome x kept ⌝ }
 {
     let told = tell(outcome);
     let steps = steps_by(place, kind, outcome);
     let number = told.number;
-    let mark = told.mark;
+    let mark = mark_by(number, x, kept);
     let value = told.value;
     Note {
         outcome: number,

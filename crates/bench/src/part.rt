@@ -39,6 +39,7 @@ pub(crate) fn play_part(part: &[u8], rest: &mut [u8], from: Played) -> Played
         let m = play_parts(n, s, p, x, own, row, kind);
         let now = m.x;
         let left = m.own;
+        let kept = left.kept;
         let wrote = m.row;
         let outcome = m.outcome;
         st.x = now;
@@ -46,7 +47,7 @@ pub(crate) fn play_part(part: &[u8], rest: &mut [u8], from: Played) -> Played
         st.records[i] = left;
         let place = own.place;
         let byte = p.0 as u8;
-        let note = note_of(byte, kind, place, outcome);
+        let note = note_of(byte, kind, place, outcome, now, kept);
         let at = 12 * j;
         write_record(&mut rest[at..], note);
         changes = count(changes, x, now);

@@ -9,7 +9,7 @@ use native.Mathlib.Omega.{arith}
 use lib.Dec.{eqb, leb}
 use lib.IntN.{pos, _-ℤ_}
 use borrow.Author.Tests.{eqb-true, eq-eqb}
-use Rattle.linear.specs.Types.{Process, Tag, Row, Record, Kind, Ask, Step, Request, Load, Store, Check, Requested, Place, Idle, Load1, Load2, Load3, Load5, Store7, Store8, Store9, Store10, Check14, Outcome, Taken, GoesOn, Current, Old, Done, NotDone, Yes, No, NoProcess, CallOpen, UsedUp, NoCall, State, Answer}
+use Rattle.linear.specs.Types.{Process, Tag, Row, Record, Kind, Ask, Step, Request, Load, Store, Check, Requested, Place, Idle, Load1, Load2, Load3, Load5, Store7, Store8, Store9, Store10, Check14, Outcome, Taken, GoesOn, Value, Done, NotDone, Yes, No, NoProcess, CallOpen, UsedUp, NoCall, State, Answer}
 use Rattle.step.specs.Steps.{isNear, sameTag, withOld, at, withSlot, withOldValue, answered, goesOn, idle, requestOf, whenIdle, begun, notTaken}
 use Rattle.machine.specs.State.{rowAt, recordAt}
 use Rattle.machine.specs.Entry.{withParts, refused, called}
@@ -65,12 +65,12 @@ module _ (G : Kind → State → Outcome → Bool → Type 0) (st : State) (p : 
         → Calm Step GoesOn (rowAt st p) (at (recordAt st p) (Load3 (slotOf (rowAt st (recordAt st p .kept .process .0)) (recordAt st p .kept .number .0))))
     pub step-3-answers : (v : ℕ) → recordAt st p .place ≡ Load3 v
         → isNear (rowAt st (recordAt st p .kept .process .0) .«old_number») (recordAt st p .kept .number .0) ≡ true
-        → Calm Step (Current v) (rowAt st p) (at (recordAt st p) Idle)
+        → Calm Step (Value v) (rowAt st p) (at (recordAt st p) Idle)
     pub step-3-goes-on : (v : ℕ) → recordAt st p .place ≡ Load3 v
         → isNear (rowAt st (recordAt st p .kept .process .0) .«old_number») (recordAt st p .kept .number .0) ≡ false
         → Calm Step GoesOn (rowAt st p) (at (recordAt st p) Load5)
     pub step-5 : recordAt st p .place ≡ Load5
-        → Calm Step (Old (rowAt st (recordAt st p .kept .process .0) .«old_value»)) (rowAt st p) (at (recordAt st p) Idle)
+        → Calm Step (Value (rowAt st (recordAt st p .kept .process .0) .«old_value»)) (rowAt st p) (at (recordAt st p) Idle)
     pub step-7 : (v : ℕ) → recordAt st p .place ≡ Store7 v
         → Calm Step GoesOn (withSlot (rowAt st p) (recordAt st p .next) v) (at (recordAt st p) Store8)
     pub step-8-done : recordAt st p .place ≡ Store8 → sameTag (st .x) (recordAt st p .kept) ≡ true → (st′ : State)
@@ -160,13 +160,13 @@ module _ (G : Kind → State → Outcome → Bool → Type 0) (st : State) (p : 
       where
         go : (b : Bool) → isNear (rowAt st (own .kept .process .0) .«old_number») (own .kept .number .0) ≡ b
             → Left (p .0) st
-            (cond b (answered (st .x) own (rowAt st (own .kept .process .0)) (Current v)) (goesOn (st .x) (at own Load5) (rowAt st (own .kept .process .0))))
+            (cond b (answered (st .x) own (rowAt st (own .kept .process .0)) (Value v)) (goesOn (st .x) (at own Load5) (rowAt st (own .kept .process .0))))
             (rowAt st (p .0)) (called st p Step)
             → Shown Step (called st p Step)
-        go true t left = calm Step (called st p Step) (Current v) (left .outcome) (left .x) (cases l .step-3-answers v e t after-step (left .x) (left .moved))
+        go true t left = calm Step (called st p Step) (Value v) (left .outcome) (left .x) (cases l .step-3-answers v e t after-step (left .x) (left .moved))
         go false t left = calm Step (called st p Step) GoesOn (left .outcome) (left .x) (cases l .step-3-goes-on v e t after-step (left .x) (left .moved))
     step-shown Load5 e left =
-        calm Step (called st p Step) (Old (rowAt st (own .kept .process .0) .«old_value»)) (left .outcome) (left .x) (cases l .step-5 e after-step (left .x) (left .moved))
+        calm Step (called st p Step) (Value (rowAt st (own .kept .process .0) .«old_value»)) (left .outcome) (left .x) (cases l .step-5 e after-step (left .x) (left .moved))
     step-shown (Store7 v) e left = calm Step (called st p Step) GoesOn (left .outcome) (left .x) (cases l .step-7 v e after-step (left .x) (left .moved))
     step-shown Store8 e left = go (sameTag (st .x) (own .kept)) refl left
       where

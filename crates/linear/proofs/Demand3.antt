@@ -16,43 +16,41 @@ use Rattle.machine.proofs.Frame.{frame}
 use Rattle.machine.proofs.RunLaws.{ready-start, ready-played}
 use Rattle.bench.specs.Bench.{inLog}
 use Rattle.log.specs.declared.Note as log
-use Rattle.word.specs.Word.{Call, Every}
+use Rattle.word.specs.Word.{Word, first, Call, Every}
 use Rattle.word.specs.Calls.{Reply, Calls, noCalls, goOn, callsFrom, doneCount, Answered, OneOrder}
 use Rattle.word.proofs.Lists.{every-map, every-perm}
-use Rattle.word.proofs.Good.{good-first}
+use Rattle.word.proofs.Good.{good-first, good-count, good-value}
 use Rattle.word.proofs.Told.{NotLater, every-mem, done-on}
 use Rattle.linear.specs.Demand3.{stepOfStore, itemOf, itemsOf, callsIn, RightRecord, RightRecords, Demand3}
-use Rattle.linear.specs.Linked.{ChangesDecide, Marks, noMarks, markOn, StoresLinked}
+use Rattle.linear.specs.Readings.{ChangesDecide, wordOn, Readings, wordFrom, SameWord}
 use Rattle.linear.proofs.Simulated.{Simulated, sim-start, sim-entry}
 use Rattle.linear.proofs.Known.{KnownIn, known-start, known-entry}
 
--- What holds after the entries es with the notes ws, of which the calls c have become c′ and the marks m some others.
-pub record Ended (n v : ℕ) (st : State) (c c′ : Calls ℕ) (m : Marks) (es : List Entry) (ws : List EntryNote) : Type 0 where
-  pub marks : Marks
-  pub sim : Simulated v st c′ marks
+-- What holds after the entries es with the notes ws, of which the calls c have become c′ and the word m has become m′.
+pub record Ended (n v : ℕ) (st : State) (c c′ : Calls ℕ) (m m′ : Word ℕ) (es : List Entry) (ws : List EntryNote) : Type 0 where
+  pub sim : Simulated v st c′ m′
   pub known : KnownIn st c′
   pub records : RightRecords n c es (map inLog ws)
   pub decide : ChangesDecide c es ws
-  pub linked : StoresLinked c m (itemsOf es (map inLog ws))
+  pub readings : Readings c m es (map inLog ws)
   pub changed : doneCount (c′ .played) ≡ doneCount (c .played) + changeCount ws
 
-pub run-on : (n v : ℕ) (st : State) (c : Calls ℕ) (m : Marks) (es : List Entry) → st .n ≡ n → Ready st → Simulated v st c m → KnownIn st c
-    → Ended n v (after st es) c (callsFrom stepOfStore c (itemsOf es (map inLog (notes st es)))) m es (notes st es)
+pub run-on : (n v : ℕ) (st : State) (c : Calls ℕ) (m : Word ℕ) (es : List Entry) → st .n ≡ n → Ready st → Simulated v st c m → KnownIn st c
+    → Ended n v (after st es) c (callsFrom stepOfStore c (itemsOf es (map inLog (notes st es)))) m (wordFrom c m es (map inLog (notes st es))) es (notes st es)
 unfolding after notes callsFrom changeCount
 run-on n v st c m [] size ready sim known =
-    record { marks = m; sim = sim; known = known; records = tt; decide = tt; linked = tt; changed = omega arith }
+    record { sim = sim; known = known; records = tt; decide = tt; readings = tt; changed = omega arith }
 run-on n v st c m (e ∷ es) size ready sim known =
     let gone = known-entry c known ready (sim .sim .inv .following) (e .process) (e .kind) in
     let next = sim-entry c m sim known ready (e .process) (e .kind) in
     let rest =
-    run-on n v (played st e .state) (goOn stepOfStore c (itemOf e (inLog (noteOf st e)))) (markOn c m (itemOf e (inLog (noteOf st e)))) es (frame st (e .process) (e .kind) .n ∙ size) (ready-played st e ready) (next .0) (gone .0) in
+    run-on n v (played st e .state) (goOn stepOfStore c (itemOf e (inLog (noteOf st e)))) (wordOn c m (itemOf e (inLog (noteOf st e)))) es (frame st (e .process) (e .kind) .n ∙ size) (ready-played st e ready) (next .0) (gone .0) in
     record {
-      marks = rest .marks;
       sim = rest .sim;
       known = rest .known;
       records = (subst (λ (k : ℕ). RightRecord k c e (inLog (noteOf st e))) size (gone .1), rest .records);
       decide = (gone .2, rest .decide);
-      linked = (next .1, rest .linked);
+      readings = (next .1, rest .readings);
       changed =
           add (xChanged st (played st e .state)) _ _ _
           (done-on stepOfStore c (itemOf e (inLog (noteOf st e))) ∙ ap (λ (b : Bool). cond b (suc d) d) (sym (gone .2))) (rest .changed);
@@ -74,8 +72,9 @@ answered-late replies played =
     played
 
 module _ (n : ℕ) (s : Sequence) (v : ℕ) (range : inRange n s ≡ true) (es : List Entry) where
-  pub ended : Ended n v (after (firstState n s v) es) noCalls (callsIn es (map inLog (notes (firstState n s v) es))) noMarks es (notes (firstState n s v) es)
-  ended = run-on n v (firstState n s v) noCalls noMarks es refl (ready-start n s v range) (sim-start n s v range) (known-start n s v range)
+  pub ended : Ended n v (after (firstState n s v) es) noCalls (callsIn es (map inLog (notes (firstState n s v) es))) (first v 0)
+      (wordFrom noCalls (first v 0) es (map inLog (notes (firstState n s v) es))) es (notes (firstState n s v) es)
+  ended = run-on n v (firstState n s v) noCalls (first v 0) es refl (ready-start n s v range) (sim-start n s v range) (known-start n s v range)
 
   abbrev ws : List log.Note
   ws = map inLog (notes (firstState n s v) es)
@@ -103,6 +102,13 @@ module _ (n : ℕ) (s : Sequence) (v : ℕ) (range : inRange n s ≡ true) (es :
   pub changes-decide : ChangesDecide noCalls es (notes (firstState n s v) es)
   changes-decide = ended .decide
 
-  -- a store is done exactly if its process has taken step 1 of a load and the word has not changed since the latest
-  pub stores-linked : StoresLinked noCalls noMarks (itemsOf es (map inLog (notes (firstState n s v) es)))
-  stores-linked = ended .linked
+  -- each record's mark and answer, beside the word as the steps leave it
+  pub readings : Readings noCalls (first v 0) es (map inLog (notes (firstState n s v) es))
+  readings = ended .readings
+
+  -- and this word, at the end of every run, is the one that demand 3's order leaves
+  pub same-word : SameWord v (demand-3 .oneOrder .inOrder .order) (wordFrom noCalls (first v 0) es (map inLog (notes (firstState n s v) es)))
+  unfolding demand-3 one-order
+  same-word =
+      let sim = ended .sim .sim in
+      record { current = good-value 0 (sim .good) ∙ sim .newest; count = good-count 0 (sim .good) ∙ sim .count }

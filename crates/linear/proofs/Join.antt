@@ -11,10 +11,9 @@ use native.Mathlib.Omega.{arith}
 use Rattle.step.specs.Steps.{sameTag, at}
 use Rattle.linear.specs.Types.{Row, Record, Place, Idle, Store9}
 use Rattle.linear.proofs.View.{View, rowAt, recordAt, Moved}
-use Rattle.word.specs.Word.{Link, Op, load, store, Answer, value, done, notDone, put, linked, answerOf, first, Call}
+use Rattle.word.specs.Word.{Link, Op, load, store, Answer, value, done, notDone, put, linked, answerOf, first, Call, after}
 use Rattle.word.specs.Word as word
 use Rattle.word.proofs.Put.{split, put-same, put-other, put-id}
-use Rattle.word.proofs.Play.{after}
 use Rattle.word.proofs.Changes.{writes, wrote, total, valueAfter, total-quiet, total-snoc, value-snoc, value-new, writes-own, writes-nothing}
 use Rattle.word.proofs.Relink.{NoLoad, link-own}
 use Rattle.word.proofs.Insert.{loadCall, ins, total-ins, value-ins}
@@ -26,35 +25,37 @@ use Rattle.linear.proofs.Kept.{own, row, newChange}
 use Rattle.linear.proofs.Side.{LinkOk, Undecided, LateFor, endLink, Side, SideAt, Sim, Way, way-same, way-quiet, way-done, way-load, link-snoc, side-on, link-behind, linked-same}
 
 -- An entry that changes no state: a refused one.
-pub sim-tick : {v : ℕ} {st : View} {now : ℕ} {asked : ℕ → ℕ} {op : ℕ → Op ℕ} {played : List (Call ℕ)} {seen : ℕ → Link} {changes : ℕ}
-    → Sim v st now asked op played seen changes → Sim v st (suc now) asked op played seen changes
+pub sim-tick : {v : ℕ} {st : View} {now : ℕ} {asked : ℕ → ℕ} {op : ℕ → Op ℕ} {played : List (Call ℕ)} {seen : ℕ → Link} {changes current : ℕ}
+    → Sim v st now asked op played seen changes current → Sim v st (suc now) asked op played seen changes current
 sim-tick {v} {st} {now} {asked} {op} {played} {seen} s =
     record {
       h = s .h;
       order = s .order;
       good = good-tick (s .good);
       count = s .count;
+      newest = s .newest;
       inv = s .inv;
       vals = s .vals;
       sides = λ q l. side-on (way-same v now (s .order) q) (asked q) (op q) (rowAt st q) (recordAt st q .next .0) (recordAt st q .place) (seen q) (s .sides q l);
     }
 
-module _ {v : ℕ} {st : View} {now : ℕ} {asked : ℕ → ℕ} {op : ℕ → Op ℕ} {played : List (Call ℕ)} {seen : ℕ → Link} {changes : ℕ}
-    (s : Sim v st now asked op played seen changes) (p : ℕ) (l : p < st .n) where
+module _ {v : ℕ} {st : View} {now : ℕ} {asked : ℕ → ℕ} {op : ℕ → Op ℕ} {played : List (Call ℕ)} {seen : ℕ → Link} {changes current : ℕ}
+    (s : Sim v st now asked op played seen changes current) (p : ℕ) (l : p < st .n) where
   -- An entry of p: what is new of p, and a way for the others.
-  sim-on : {st′ : View} {r′ : Row} {o′ : Record} (asked′ : ℕ → ℕ) (op′ : ℕ → Op ℕ) (played′ order′ : List (Call ℕ)) (h′ : List Change) (sn′ : Link) (changes′ : ℕ)
+  sim-on : {st′ : View} {r′ : Row} {o′ : Record} (asked′ : ℕ → ℕ) (op′ : ℕ → Op ℕ) (played′ order′ : List (Call ℕ)) (h′ : List Change) (sn′ : Link) (changes′ current′ : ℕ)
       → ((q : ℕ) → q ≢ p → asked′ q ≡ asked q) → ((q : ℕ) → q ≢ p → op′ q ≡ op q)
-      → Moved p st st′ r′ o′ → Good v (suc now) order′ played′ → total 0 order′ ≡ changes′ → Inv st′ (total 0 order′) h′ (put p sn′ seen)
+      → Moved p st st′ r′ o′ → Good v (suc now) order′ played′ → total 0 order′ ≡ changes′ → valueAfter 0 (total 0 order′) v order′ ≡ current′ → Inv st′ (total 0 order′) h′ (put p sn′ seen)
       → ((i q k u : ℕ) → At h′ i q k u → valueAfter 0 i v order′ ≡ u)
       → ((q : ℕ) → q ≢ p → Way v now (s .order) order′ q)
       → SideAt v (suc now) order′ p (asked′ p) (op′ p) r′ o′ sn′
-      → Sim v st′ (suc now) asked′ op′ played′ (put p sn′ seen) changes′
-  sim-on {st′} {r′} {o′} asked′ op′ played′ order′ h′ sn′ changes′ same-asked same-op m good count inv vals ways mine =
+      → Sim v st′ (suc now) asked′ op′ played′ (put p sn′ seen) changes′ current′
+  sim-on {st′} {r′} {o′} asked′ op′ played′ order′ h′ sn′ changes′ current′ same-asked same-op m good count newest inv vals ways mine =
       record {
         h = h′;
         order = order′;
         good = good;
         count = count;
+        newest = newest;
         inv = inv;
         vals = vals;
         sides =
@@ -76,28 +77,28 @@ module _ {v : ℕ} {st : View} {now : ℕ} {asked : ℕ → ℕ} {op : ℕ → O
   -- A step that decides nothing: 1, 2, 3 that goes on, 7, 9, 10.
   pub sim-quiet : {st′ : View} {r′ : Row} {o′ : Record} (sn′ : Link)
       → Moved p st st′ r′ o′ → Inv st′ (total 0 (s .order)) (s .h) (put p sn′ seen)
-      → SideAt v (suc now) (s .order) p (asked p) (op p) r′ o′ sn′ → Sim v st′ (suc now) asked op played (put p sn′ seen) changes
+      → SideAt v (suc now) (s .order) p (asked p) (op p) r′ o′ sn′ → Sim v st′ (suc now) asked op played (put p sn′ seen) changes current
   sim-quiet sn′ m inv mine =
-      sim-on asked op played (s .order) (s .h) sn′ changes (λ q ne. refl) (λ q ne. refl) m (good-tick (s .good)) (s .count) inv (s .vals)
+      sim-on asked op played (s .order) (s .h) sn′ changes current (λ q ne. refl) (λ q ne. refl) m (good-tick (s .good)) (s .count) (s .newest) inv (s .vals)
       (λ q ne. way-same v now (s .order) q) mine
 
   -- what p has seen is as it was
-  as-seen : {st′ : View} {now′ : ℕ} {asked′ : ℕ → ℕ} {op′ : ℕ → Op ℕ} {played′ : List (Call ℕ)} {changes′ : ℕ}
-      → Sim v st′ now′ asked′ op′ played′ (put p (seen p) seen) changes′ → Sim v st′ now′ asked′ op′ played′ seen changes′
-  as-seen {st′} {now′} {asked′} {op′} {played′} {changes′} s′ = subst (λ (sn : ℕ → Link). Sim v st′ now′ asked′ op′ played′ sn changes′) (put-id p seen) s′
+  as-seen : {st′ : View} {now′ : ℕ} {asked′ : ℕ → ℕ} {op′ : ℕ → Op ℕ} {played′ : List (Call ℕ)} {changes′ current′ : ℕ}
+      → Sim v st′ now′ asked′ op′ played′ (put p (seen p) seen) changes′ current′ → Sim v st′ now′ asked′ op′ played′ seen changes′ current′
+  as-seen {st′} {now′} {asked′} {op′} {played′} {changes′} {current′} s′ = subst (λ (sn : ℕ → Link). Sim v st′ now′ asked′ op′ played′ sn changes′ current′) (put-id p seen) s′
 
   pub sim-still : {st′ : View} {r′ : Row} {o′ : Record} → Moved p st st′ r′ o′ → Inv st′ (total 0 (s .order)) (s .h) (put p (seen p) seen)
-      → SideAt v (suc now) (s .order) p (asked p) (op p) r′ o′ (seen p) → Sim v st′ (suc now) asked op played seen changes
+      → SideAt v (suc now) (s .order) p (asked p) (op p) r′ o′ (seen p) → Sim v st′ (suc now) asked op played seen changes current
   sim-still m inv mine = as-seen (sim-quiet (seen p) m inv mine)
 
   -- A request: all calls so far were decided before it.
   pub sim-request : {st′ : View} {r′ : Row} {o′ : Record} (o : Op ℕ)
       → Moved p st st′ r′ o′ → Inv st′ (total 0 (s .order)) (s .h) (put p (seen p) seen)
       → (Undecided p now (suc now) (s .order) (put p o op p) o → SideAt v (suc now) (s .order) p now (put p o op p) r′ o′ (seen p))
-      → Sim v st′ (suc now) (put p now asked) (put p o op) played seen changes
+      → Sim v st′ (suc now) (put p now asked) (put p o op) played seen changes current
   sim-request {r′ = r′} {o′ = o′} o m inv mine =
       as-seen
-      (sim-on (put p now asked) (put p o op) played (s .order) (s .h) (seen p) changes (put-other p now asked) (put-other p o op) m (good-tick (s .good)) (s .count) inv (s .vals)
+      (sim-on (put p now asked) (put p o op) played (s .order) (s .h) (seen p) changes current (put-other p now asked) (put-other p o op) m (good-tick (s .good)) (s .count) (s .newest) inv (s .vals)
       (λ q ne. way-same v now (s .order) q)
       (subst (λ (t : ℕ). SideAt v (suc now) (s .order) p t (put p o op p) r′ o′ (seen p)) (sym (put-same p now asked))
       (mine (record { kind = put-same p o op; before = omega arith; own = own-new p (s .good) }))))
@@ -107,13 +108,14 @@ module _ {v : ℕ} {st : View} {now : ℕ} {asked : ℕ → ℕ} {op : ℕ → O
       → Moved p st st′ (rowAt st p) o′ → Inv st′ (total 0 (s .order)) (s .h) (put p (seen p) seen)
       → Undecided p (asked p) now (s .order) (op p) load → LateFor (asked p) (s .order) (seen p) → seen p ≡ word.at i
       → i ≤ m → At (s .h) m q k u → LinkOk (total 0 (s .order)) (word.at m) (word.at i)
-      → Sim v st′ (suc now) asked op (played ++ record { asked = asked p; decided = now; process = p; word = 0; op = op p; answer = value u } ∷ []) seen changes
+      → Sim v st′ (suc now) asked op (played ++ record { asked = asked p; decided = now; process = p; word = 0; op = op p; answer = value u } ∷ []) seen changes current
   sim-load {st′} {o′} i m q k u idle moved inv und late sn le a ok =
       subst₂
-      (λ (o : Op ℕ) (w : ℕ). Sim v st′ (suc now) asked op (played ++ record { asked = asked p; decided = now; process = p; word = 0; op = o; answer = value w } ∷ []) seen changes)
+      (λ (o : Op ℕ) (w : ℕ). Sim v st′ (suc now) asked op (played ++ record { asked = asked p; decided = now; process = p; word = 0; op = o; answer = value w } ∷ []) seen changes current)
       (sym (und .kind)) (s .vals m q k u a)
-      (as-seen (sim-on asked op (played ++ x ∷ []) (ins 0 m x (s .order)) (s .h) (seen p) changes (λ q ne. refl) (λ q ne. refl) moved
+      (as-seen (sim-on asked op (played ++ x ∷ []) (ins 0 m x (s .order)) (s .h) (seen p) changes current (λ q ne. refl) (λ q ne. refl) moved
       (good-load (asked p) p 0 m (s .good) may) (total-ins 0 m 0 x (s .order) refl ∙ s .count)
+      (ap (λ (j : ℕ). valueAfter 0 j v (ins 0 m x (s .order))) (total-ins 0 m 0 x (s .order) refl) ∙ value-ins 0 m 0 x (s .order) refl (total 0 (s .order)) v ∙ s .newest)
       (subst (λ (t : ℕ). Inv st′ t (s .h) (put p (seen p) seen)) (sym (total-ins 0 m 0 x (s .order) refl)) inv)
       (λ j z n w b. value-ins 0 m 0 x (s .order) refl j v ∙ s .vals j z n w b)
       (λ z ne. way-load v now (s .order) played (asked p) p m z (s .good) may (λ e. ne (sym e)))
@@ -153,13 +155,14 @@ module _ {v : ℕ} {st : View} {now : ℕ} {asked : ℕ → ℕ} {op : ℕ → O
       → Undecided p (asked p) now (s .order) (op p) o → NoLoad o → wrote o a ≡ none
       → LinkOk (total 0 (s .order)) (endLink v (s .order) p) (seen p)
       → answerOf (after (first v) (s .order) 0) p o ≡ a
-      → Sim v st′ (suc now) asked op (played ++ record { asked = asked p; decided = now; process = p; word = 0; op = op p; answer = a } ∷ []) seen changes
+      → Sim v st′ (suc now) asked op (played ++ record { asked = asked p; decided = now; process = p; word = 0; op = op p; answer = a } ∷ []) seen changes current
   sim-append {st′} {o′} o a idle moved inv und noload quiet ok right =
       subst
-      (λ (o : Op ℕ). Sim v st′ (suc now) asked op (played ++ record { asked = asked p; decided = now; process = p; word = 0; op = o; answer = a } ∷ []) seen changes)
+      (λ (o : Op ℕ). Sim v st′ (suc now) asked op (played ++ record { asked = asked p; decided = now; process = p; word = 0; op = o; answer = a } ∷ []) seen changes current)
       (sym (und .kind))
-      (as-seen (sim-on asked op (played ++ c ∷ []) (s .order ++ c ∷ []) (s .h) (seen p) changes (λ q ne. refl) (λ q ne. refl) moved
+      (as-seen (sim-on asked op (played ++ c ∷ []) (s .order ++ c ∷ []) (s .h) (seen p) changes current (λ q ne. refl) (λ q ne. refl) moved
       (good-append c (s .good) (und .before) refl right) (total-quiet 0 (s .order) c nothing ∙ s .count)
+      (ap (λ (j : ℕ). valueAfter 0 j v (s .order ++ c ∷ [])) (total-quiet 0 (s .order) c nothing) ∙ value-snoc 0 (total 0 (s .order)) v (s .order) c (omega arith) ∙ s .newest)
       (subst (λ (t : ℕ). Inv st′ t (s .h) (put p (seen p) seen)) (sym (total-quiet 0 (s .order) c nothing)) inv)
       (λ j z n w b. value-snoc 0 j v (s .order) c (place-low (s .inv) j z n w b) ∙ s .vals j z n w b)
       (λ z ne. way-quiet v now (s .order) c z refl (λ e. ne (sym e)) noload nothing)
@@ -184,13 +187,14 @@ module _ {v : ℕ} {st : View} {now : ℕ} {asked : ℕ → ℕ} {op : ℕ → O
       → Undecided p (asked p) now (s .order) (op p) (store (slotOf (rowAt st p) (recordAt st p .next .0)))
       → LinkOk (total 0 (s .order)) (endLink v (s .order) p) (seen p)
       → sameTag (st .x) (recordAt st p .kept) ≡ true
-      → Sim v st′ (suc now) asked op (played ++ record { asked = asked p; decided = now; process = p; word = 0; op = op p; answer = done } ∷ []) seen (suc changes)
+      → Sim v st′ (suc now) asked op (played ++ record { asked = asked p; decided = now; process = p; word = 0; op = op p; answer = done } ∷ []) seen (suc changes) (slotOf (rowAt st p) (recordAt st p .next .0))
   sim-done {st′} {o′} at-9 moved inv und ok same =
       subst
-      (λ (o : Op ℕ). Sim v st′ (suc now) asked op (played ++ record { asked = asked p; decided = now; process = p; word = 0; op = o; answer = done } ∷ []) seen (suc changes))
+      (λ (o : Op ℕ). Sim v st′ (suc now) asked op (played ++ record { asked = asked p; decided = now; process = p; word = 0; op = o; answer = done } ∷ []) seen (suc changes) (slotOf (rowAt st p) (recordAt st p .next .0)))
       (sym (und .kind))
-      (as-seen (sim-on asked op (played ++ c ∷ []) (s .order ++ c ∷ []) (newChange st p ∷ s .h) (seen p) (suc changes) (λ q ne. refl) (λ q ne. refl) moved
+      (as-seen (sim-on asked op (played ++ c ∷ []) (s .order ++ c ∷ []) (newChange st p ∷ s .h) (seen p) (suc changes) (slotOf (rowAt st p) (recordAt st p .next .0)) (λ q ne. refl) (λ q ne. refl) moved
       (good-append c (s .good) (und .before) refl (ap (λ (b : Bool). cond b done notDone) (agree ok ∙ same))) (more ∙ ap suc (s .count))
+      (ap (λ (j : ℕ). valueAfter 0 j v (s .order ++ c ∷ [])) more ∙ value-new 0 v (s .order) c (writes-own c))
       (subst (λ (t : ℕ). Inv st′ t (newChange st p ∷ s .h) (put p (seen p) seen)) (sym more) inv)
       vals
       (λ z ne. way-done v now (s .order) c z refl (λ e. ne (sym e)) tt (writes-own c))

@@ -1,7 +1,7 @@
 -- Steps and replies, a second induction over the same run, with no order and no changes in it: by the place where a process stands, what
 -- its call asks, how many own steps it has taken, and from step 8 to step 10 of a store the call that is played for it.
 -- Assumes nothing.
-use Prim.Native.Nat.{ℕ, suc, _-_, _<_}
+use Prim.Native.Nat.{ℕ, suc, _<_}
 use mathlib.Core.Path.{_≡_, refl, sym, ap, _∙_, subst, subst₂}
 use mathlib.Core.Bool.{not, Bool, true, false, cond, _&&_, false≢true}
 use mathlib.Core.Logic.{_≢_, inl, inr}
@@ -222,7 +222,7 @@ load-stores e = ap isStore e
 module _ {st : State} (c : Calls ℕ) (known : KnownIn st c) (ready : Ready st) (following : recordAt (viewOf st) (st .x .process .0) .next .0 ≡ suc (st .x .number .0)) (p : Process) where
   abbrev pub Gone : Kind → State → Outcome → Bool → Type 0
   Gone k st′ o b =
-      KnownIn st′ (goOn stepOfStore c (came st p k o)) × RightRecord (st .n) c (entryOf p k) (noteWith st p k o) × (b ≡ decidesIn stepOfStore c (came st p k o))
+      KnownIn st′ (goOn stepOfStore c (came st p k st′ o)) × RightRecord (st .n) c (entryOf p k) (noteWith st p k st′ o) × (b ≡ decidesIn stepOfStore c (came st p k st′ o))
 
   -- why it was turned away, in the log's numbers and by the open calls
   may-refuse : (k : Kind) (o : Outcome) → Turned st (p .0) k o → Allowed (st .n) c (entryOf p k) (toldOf o .number) away
@@ -235,12 +235,11 @@ module _ {st : State} (c : Calls ℕ) (known : KnownIn st c) (ready : Ready st) 
 
   away-known : (k : Kind) (o : Outcome) → turnedAway o ≡ true → Turned st (p .0) k o → Gone k st o false
   away-known k o e why =
-      let none : came st p k o ≡ away = item-away (p .0) k (noteWith st p k o) e in (
+      let none : came st p k st o ≡ away = item-away (p .0) k (noteWith st p k st o) e in (
         subst (λ (i : Item ℕ). KnownIn st (goOn stepOfStore c i)) (sym none) (known-tick known),
         record {
           process = refl;
           steps = away-steps st p k o e ∙ ap (λ (i : Item ℕ). counted c i .steps) (sym none);
-          mark = away-plain o e .0 ∙ ap (λ (i : Item ℕ). counted c i .mark) (sym none);
           value = away-plain o e .1 ∙ ap (λ (i : Item ℕ). counted c i .value) (sym none);
           allowed = subst (Allowed (st .n) c (entryOf p k) (toldOf o .number)) (sym none) (may-refuse k o why);
         },
@@ -261,7 +260,7 @@ module _ {st : State} (c : Calls ℕ) (known : KnownIn st c) (ready : Ready st) 
       subst
           (λ (b : Bool). Known (viewOf st′) (suc (c .now)) (c .opened) (c .asked) (c .word) (c .op) (put (p .0) (suc (c .steps (p .0))) (c .steps)) (cond b (c .played ++ callBy c (p .0) done ∷ []) (c .played)) (c .replies))
           (sym d) known′,
-      record { process = refl; steps = rank-of e counted; mark = refl; value = refl; allowed = (l, here, may) },
+      record { process = refl; steps = rank-of e counted; value = refl; allowed = (l, here, may) },
       sym d,
     )
 
@@ -281,13 +280,13 @@ module _ {st : State} (c : Calls ℕ) (known : KnownIn st c) (ready : Ready st) 
         record {
           asks-load = λ e st′ x m.
               let new = new-call known (p .0) l in
-              (known-request known (p .0) l 0 load m refl (new _ (put-same (p .0) load (c .op))), record { process = refl; steps = refl; mark = refl; value = refl; allowed = (l, opened-at known (p .0) l e) }, refl);
+              (known-request known (p .0) l 0 load m refl (new _ (put-same (p .0) load (c .op))), record { process = refl; steps = refl; value = refl; allowed = (l, opened-at known (p .0) l e) }, refl);
           asks-store = λ u e st′ x m.
               let new = new-call known (p .0) l in
-              (known-request known (p .0) l 0 (store u) m refl (new _ (ap isStore (put-same (p .0) (store u) (c .op)))), record { process = refl; steps = refl; mark = refl; value = refl; allowed = (l, opened-at known (p .0) l e) }, refl);
+              (known-request known (p .0) l 0 (store u) m refl (new _ (ap isStore (put-same (p .0) (store u) (c .op)))), record { process = refl; steps = refl; value = refl; allowed = (l, opened-at known (p .0) l e) }, refl);
           asks-check = λ e st′ x m.
               let new = new-call known (p .0) l in
-              (known-request known (p .0) l 0 check m refl (new _ (put-same (p .0) check (c .op))), record { process = refl; steps = refl; mark = refl; value = refl; allowed = (l, opened-at known (p .0) l e) }, refl);
+              (known-request known (p .0) l 0 check m refl (new _ (put-same (p .0) check (c .op))), record { process = refl; steps = refl; value = refl; allowed = (l, opened-at known (p .0) l e) }, refl);
           step-1 = λ e st′ x m.
               let o = known-at known (p .0) l e in
               goes-on st′ false (decides-at c (p .0) 1 false (load-stores (o .0 .asks)) (o .0 .counted)) (known-quiet known (p .0) l m (opened-at known (p .0) l e) (next-step (c .steps) (o .0), o .1))
@@ -302,7 +301,6 @@ module _ {st : State} (c : Calls ℕ) (known : KnownIn st c) (ready : Ready st) 
                 record {
                   process = refl;
                   steps = rank-of e (o .0 .counted);
-                  mark = ap (λ (k : ℕ). k - 2) (sym (o .0 .counted));
                   value = refl;
                   allowed = (l, opened-at known (p .0) l e, (o .0 .asks, inl (o .0 .counted)));
                 },
@@ -318,7 +316,6 @@ module _ {st : State} (c : Calls ℕ) (known : KnownIn st c) (ready : Ready st) 
                 record {
                   process = refl;
                   steps = rank-of e (o .0 .counted);
-                  mark = ap (λ (k : ℕ). k - 2) (sym (o .0 .counted));
                   value = refl;
                   allowed = (l, opened-at known (p .0) l e, (o .0 .asks, inr (o .0 .counted)));
                 },
@@ -334,7 +331,7 @@ module _ {st : State} (c : Calls ℕ) (known : KnownIn st c) (ready : Ready st) 
               (opened-at known (p .0) l e) e (o .0 .counted) (may-store (o .0 .asks) (o .0 .counted) (omega arith));
           step-8-not-done = λ e other st′ x m.
               let o = known-at known (p .0) l e in
-              (known-both known (p .0) l notDone refl m o, record { process = refl; steps = rank-of e (o .0 .counted); mark = refl; value = refl; allowed = (l, opened-at known (p .0) l e, (o .0 .asks, o .0 .counted)) }, refl);
+              (known-both known (p .0) l notDone refl m o, record { process = refl; steps = rank-of e (o .0 .counted); value = refl; allowed = (l, opened-at known (p .0) l e, (o .0 .asks, o .0 .counted)) }, refl);
           step-9 = λ e st′ x m.
               let o = known-at known (p .0) l e in
               goes-on st′ false (decides-at c (p .0) 3 true (o .0 .asks) (o .0 .counted))
@@ -342,13 +339,13 @@ module _ {st : State} (c : Calls ℕ) (known : KnownIn st c) (ready : Ready st) 
               (opened-at known (p .0) l e) e (o .0 .counted) (may-store (o .0 .asks) (o .0 .counted) (omega arith));
           step-10 = λ e st′ x m.
               let o = known-at known (p .0) l e in
-              (known-answered known (p .0) l refl m (o .0) (o .1), record { process = refl; steps = rank-of e (o .0 .counted); mark = refl; value = refl; allowed = (l, opened-at known (p .0) l e, (o .0 .asks, o .0 .counted)) }, refl);
+              (known-answered known (p .0) l refl m (o .0) (o .1), record { process = refl; steps = rank-of e (o .0 .counted); value = refl; allowed = (l, opened-at known (p .0) l e, (o .0 .asks, o .0 .counted)) }, refl);
           step-14-yes = λ e same st′ x m.
               let o = known-at known (p .0) l e in
-              (known-both known (p .0) l saysYes refl m o, record { process = refl; steps = rank-of e (o .0 .counted); mark = refl; value = refl; allowed = (l, opened-at known (p .0) l e, (o .0 .asks, o .0 .counted)) }, refl);
+              (known-both known (p .0) l saysYes refl m o, record { process = refl; steps = rank-of e (o .0 .counted); value = refl; allowed = (l, opened-at known (p .0) l e, (o .0 .asks, o .0 .counted)) }, refl);
           step-14-no = λ e other st′ x m.
               let o = known-at known (p .0) l e in
-              (known-both known (p .0) l saysNo refl m o, record { process = refl; steps = rank-of e (o .0 .counted); mark = refl; value = refl; allowed = (l, opened-at known (p .0) l e, (o .0 .asks, o .0 .counted)) }, refl);
+              (known-both known (p .0) l saysNo refl m o, record { process = refl; steps = rank-of e (o .0 .counted); value = refl; allowed = (l, opened-at known (p .0) l e, (o .0 .asks, o .0 .counted)) }, refl);
         }
 
   pub known-entry : (k : Kind) → Gone k (called st p k .state) (called st p k .outcome) (xChanged st (called st p k .state))

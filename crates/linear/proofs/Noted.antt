@@ -7,22 +7,30 @@ use native.Mathlib.Omega.{arith}
 use lib.Dec.{leb}
 use lib.ListN.{List·getD-eq-default}
 use borrow.Author.Tests.{leb-true, ne-eqb}
-use Rattle.linear.specs.Types.{Process, Entry, Kind, Ask, Step, Outcome, Taken, GoesOn, Current, Old, Done, NotDone, Yes, No, NoProcess, CallOpen, UsedUp, NoCall, Unsound, State, Note}
+use Rattle.linear.specs.Types.{Process, Tag, Entry, Kind, Ask, Step, Outcome, Taken, GoesOn, Value, Done, NotDone, Yes, No, NoProcess, CallOpen, UsedUp, NoCall, Unsound, State, Note}
 use Rattle.step.specs.Steps.{toldOf}
-use Rattle.machine.specs.Run.{turnedAway, stepsOf}
+use Rattle.machine.specs.State.{recordAt}
+use Rattle.machine.specs.Run.{turnedAway, stepsOf, markBy}
 use Rattle.word.specs.Calls.{Item, away}
 use Rattle.linear.specs.Demand3.{stepItems, itemBy}
 
 abbrev pub entryOf : Process → Kind → Entry
 entryOf p k = record { process = p; kind = k }
 
-abbrev pub noteWith : State → Process → Kind → Outcome → Note
-noteWith st p k o =
-    record { outcome = toldOf o .number; process = p .0; steps = stepsOf st p k o; mark = toldOf o .mark; value = toldOf o .value }
+-- an entry on st that leaves st′
+abbrev pub noteWith : State → Process → Kind → State → Outcome → Note
+noteWith st p k st′ o =
+    record {
+      outcome = toldOf o .number;
+      process = p .0;
+      steps = stepsOf st p k o;
+      mark = markBy (toldOf o .number) (st′ .x) (recordAt st′ (p .0) .kept);
+      value = toldOf o .value;
+    }
 
 -- what came of it
-abbrev pub came : State → Process → Kind → Outcome → Item ℕ
-came st p k o = itemBy (p .0) k (noteWith st p k o)
+abbrev pub came : State → Process → Kind → State → Outcome → Item ℕ
+came st p k st′ o = itemBy (p .0) k (noteWith st p k st′ o)
 
 -- an outcome of 11 or more tells nothing, and counts no step
 pub item-away : (p : ℕ) (k : Kind) (w : Note) → leb 11 (w .outcome) ≡ true → itemBy p k w ≡ away
@@ -36,17 +44,16 @@ away-steps st p (Ask request) o e = refl
 away-steps st p Step o e = rw e
 
 -- nor has it a mark or a value
-pub away-plain : (o : Outcome) → turnedAway o ≡ true → (toldOf o .mark ≡ 0) × (toldOf o .value ≡ 0)
-away-plain Taken e = (refl, refl)
-away-plain GoesOn e = (refl, refl)
-away-plain (Current v) e = absurd (false≢true e)
-away-plain (Old v) e = absurd (false≢true e)
-away-plain Done e = (refl, refl)
-away-plain NotDone e = (refl, refl)
-away-plain Yes e = (refl, refl)
-away-plain No e = (refl, refl)
-away-plain NoProcess e = (refl, refl)
-away-plain CallOpen e = (refl, refl)
-away-plain UsedUp e = (refl, refl)
-away-plain NoCall e = (refl, refl)
-away-plain Unsound e = (refl, refl)
+pub away-plain : (o : Outcome) → turnedAway o ≡ true → ((x kept : Tag) → markBy (toldOf o .number) x kept ≡ 0) × (toldOf o .value ≡ 0)
+away-plain Taken e = (λ x kept. refl, refl)
+away-plain GoesOn e = (λ x kept. refl, refl)
+away-plain (Value v) e = absurd (false≢true e)
+away-plain Done e = (λ x kept. refl, refl)
+away-plain NotDone e = (λ x kept. refl, refl)
+away-plain Yes e = (λ x kept. refl, refl)
+away-plain No e = (λ x kept. refl, refl)
+away-plain NoProcess e = (λ x kept. refl, refl)
+away-plain CallOpen e = (λ x kept. refl, refl)
+away-plain UsedUp e = (λ x kept. refl, refl)
+away-plain NoCall e = (λ x kept. refl, refl)
+away-plain Unsound e = (λ x kept. refl, refl)

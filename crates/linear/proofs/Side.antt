@@ -11,9 +11,9 @@ use native.Mathlib.Omega.{arith}
 use borrow.Author.Tests.{ne-eqb}
 use Rattle.linear.specs.Types.{Row, Record, Place, Idle, Load1, Load2, Load3, Load5, Store7, Store8, Store9, Store10, Check14}
 use Rattle.linear.proofs.View.{View, rowAt, recordAt}
-use Rattle.word.specs.Word.{Link, at, Op, load, store, check, linked, first, Call}
+use Rattle.word.specs.Word.{Link, at, Op, load, store, check, linked, first, Call, after}
 use Rattle.word.specs.Word as word
-use Rattle.word.proofs.Play.{after, after-snoc}
+use Rattle.word.proofs.Play.{after-snoc}
 use Rattle.word.proofs.Changes.{writes, total, valueAfter, total-quiet, total-snoc}
 use Rattle.word.proofs.Relink.{NoLoad, link-kept, link-others}
 use Rattle.word.proofs.Insert.{loadCall, ins, total-ins}
@@ -79,12 +79,13 @@ abbrev pub SideAt : ℕ → ℕ → List (Call ℕ) → ℕ → ℕ → Op ℕ �
 SideAt v now order q t op r own sn = Side v now order q t op r (own .next .0) (own .place) sn
 
 -- There are changes and an order such that the order is good, the machine keeps its invariants with the latest steps 1, the count is the
--- number of changes, and after each change the word had that change's value.
-pub record Sim (v : ℕ) (st : View) (now : ℕ) (asked : ℕ → ℕ) (op : ℕ → Op ℕ) (played : List (Call ℕ)) (seen : ℕ → Link) (changes : ℕ) : Type 0 where
+-- number of changes, the value is the one after the newest, and after each change the word had that change's value.
+pub record Sim (v : ℕ) (st : View) (now : ℕ) (asked : ℕ → ℕ) (op : ℕ → Op ℕ) (played : List (Call ℕ)) (seen : ℕ → Link) (changes current : ℕ) : Type 0 where
   pub h : List Change
   pub order : List (Call ℕ)
   pub good : Good v now order played
   pub count : total 0 order ≡ changes
+  pub newest : valueAfter 0 (total 0 order) v order ≡ current
   pub inv : Inv st (total 0 order) h seen
   pub vals : (i q k u : ℕ) → At h i q k u → valueAfter 0 i v order ≡ u
   pub sides : (q : ℕ) → q < st .n → SideAt v now order q (asked q) (op q) (rowAt st q) (recordAt st q) (seen q)

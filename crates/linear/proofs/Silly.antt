@@ -1,16 +1,17 @@
 -- Logs that have to fall: of each the statement is false. These are facts that a weaker definition breaks, where the theorems would go on.
 -- Assumes nothing.
 use Prim.Native.Nat.{ℕ, _≤_, _<_}
-use mathlib.Core.Path.{_≡_, sym, ap}
+use mathlib.Core.Path.{_≡_, refl, sym, ap}
 use mathlib.Core.Bool.{Bool, true, false, false≢true}
 use mathlib.Core.Logic.{_⊎_, inl, inr}
 use mathlib.Core.List.{[], _∷_}
 use native.Mathlib.Omega.{arith}
 use Rattle.linear.specs.Types.{Entry, Kind, Ask, Step, Load, Store, Check, Note}
-use Rattle.word.specs.Word.{Op, load, store, check, Answer, value, done, notDone, saysYes, saysNo}
-use Rattle.word.specs.Calls.{callsFrom}
+use Rattle.word.specs.Word.{first, Op, load, store, check, Answer, value, done, notDone, saysYes, saysNo}
+use Rattle.word.specs.Calls.{noCalls, callsFrom}
 use Rattle.word.proofs.Agree.{some-first}
 use Rattle.linear.specs.Demand3.{Demand3}
+use Rattle.linear.specs.Readings.{Readings}
 
 -- an entry of process p; a record of it: outcome, steps, mark, value
 abbrev by : ℕ → Kind → Entry
@@ -20,8 +21,8 @@ abbrev told : ℕ → ℕ → ℕ → ℕ → ℕ → Note
 told p outcome steps mark v = record { outcome = outcome; process = p; steps = steps; mark = mark; value = v }
 
 -- a request of process 0 that was taken, and steps of it that go on
-abbrev first : Note
-first = told 0 0 0 0 0
+abbrev taken : Note
+taken = told 0 0 0 0 0
 
 abbrev on : ℕ → Note
 on k = told 0 1 k 0 0
@@ -47,18 +48,18 @@ opNumber (store v) = 2
 opNumber check = 3
 
 -- N 2, V 7. A load that goes on for ever, a store that does:
-pub for-ever : ¬ Demand3 2 7 0 (by 0 (Ask Load) ∷ step ∷ step ∷ step ∷ step ∷ []) (first ∷ on 1 ∷ on 2 ∷ on 3 ∷ on 4 ∷ [])
+pub for-ever : ¬ Demand3 2 7 0 (by 0 (Ask Load) ∷ step ∷ step ∷ step ∷ step ∷ []) (taken ∷ on 1 ∷ on 2 ∷ on 3 ∷ on 4 ∷ [])
 for-ever h = omega (arith, h .records .1 .1 .1 .1 .0 .allowed .2)
 
-pub store-for-ever : ¬ Demand3 2 7 1 (by 0 (Ask (Store 5)) ∷ step ∷ step ∷ step ∷ step ∷ []) (first ∷ on 1 ∷ on 2 ∷ on 3 ∷ on 4 ∷ [])
+pub store-for-ever : ¬ Demand3 2 7 1 (by 0 (Ask (Store 5)) ∷ step ∷ step ∷ step ∷ step ∷ []) (taken ∷ on 1 ∷ on 2 ∷ on 3 ∷ on 4 ∷ [])
 store-for-ever h = omega (arith, h .records .1 .1 .1 .1 .0 .allowed .2)
 
 -- a check that goes on;
-pub check-on : ¬ Demand3 2 7 0 (by 0 (Ask Check) ∷ step ∷ []) (first ∷ on 1 ∷ [])
+pub check-on : ¬ Demand3 2 7 0 (by 0 (Ask Check) ∷ step ∷ []) (taken ∷ on 1 ∷ [])
 check-on h = h .records .1 .0 .allowed .2
 
 -- an open call whose next step is turned away as if none were open;
-pub forgotten : ¬ Demand3 2 7 0 (by 0 (Ask Load) ∷ step ∷ []) (first ∷ told 0 14 0 0 0 ∷ [])
+pub forgotten : ¬ Demand3 2 7 0 (by 0 (Ask Load) ∷ step ∷ []) (taken ∷ told 0 14 0 0 0 ∷ [])
 forgotten h = by-reason (h .records .1 .0 .allowed)
   where
     by-reason : ((_≡_ {A = ℕ} 14 11) × (2 ≤ 0)) ⊎ ((0 < 2) × ((_≡_ {A = ℕ} 14 14) × (true ≡ false))) → ⊥
@@ -73,7 +74,7 @@ pub answer-unasked : ¬ Demand3 2 7 0 (step ∷ []) (told 0 6 1 0 0 ∷ [])
 answer-unasked h = false≢true (h .records .0 .allowed .1)
 
 -- a request that is taken while a call is open;
-pub twice : ¬ Demand3 2 7 0 (by 0 (Ask Load) ∷ by 0 (Ask Check) ∷ []) (first ∷ first ∷ [])
+pub twice : ¬ Demand3 2 7 0 (by 0 (Ask Load) ∷ by 0 (Ask Check) ∷ []) (taken ∷ taken ∷ [])
 twice h = false≢true (sym (h .records .1 .0 .allowed .1))
 
 -- a process that is not there, and one that is there and gets 11;
@@ -112,7 +113,7 @@ load-gets-13 h = by-reason (h .records .0 .allowed)
     by-reason (inr (l, inl (e, o))) = omega (arith, e)
     by-reason (inr (l, inr (e, o, s))) = false≢true s
 
-pub open-gets-13 : ¬ Demand3 2 7 0 (by 0 (Ask Load) ∷ by 0 (Ask (Store 5)) ∷ []) (first ∷ told 0 13 0 0 0 ∷ [])
+pub open-gets-13 : ¬ Demand3 2 7 0 (by 0 (Ask Load) ∷ by 0 (Ask (Store 5)) ∷ []) (taken ∷ told 0 13 0 0 0 ∷ [])
 open-gets-13 h = by-reason (h .records .1 .0 .allowed)
   where
     by-reason : MayTurnAway 13 true true → ⊥
@@ -124,15 +125,12 @@ open-gets-13 h = by-reason (h .records .1 .0 .allowed)
 pub too-few : ¬ Demand3 2 7 0 (by 0 (Ask Load) ∷ []) []
 too-few h = h .records
 
-pub too-many : ¬ Demand3 2 7 0 [] (first ∷ [])
+pub too-many : ¬ Demand3 2 7 0 [] (taken ∷ [])
 too-many h = h .records
 
--- steps, a mark, a value, a process that were invented;
-pub steps-invented : ¬ Demand3 2 7 0 (by 0 (Ask Load) ∷ step ∷ []) (first ∷ on 2 ∷ [])
+-- steps, a value, a process that were invented;
+pub steps-invented : ¬ Demand3 2 7 0 (by 0 (Ask Load) ∷ step ∷ []) (taken ∷ on 2 ∷ [])
 steps-invented h = omega (arith, h .records .1 .0 .steps)
-
-pub mark-invented : ¬ Demand3 2 7 0 (by 0 (Ask Load) ∷ []) (told 0 0 0 1 0 ∷ [])
-mark-invented h = omega (arith, h .records .0 .mark)
 
 pub value-invented : ¬ Demand3 2 7 0 (by 0 (Ask (Store 5)) ∷ []) (told 0 0 0 0 5 ∷ [])
 value-invented h = omega (arith, h .records .0 .value)
@@ -141,45 +139,71 @@ pub process-invented : ¬ Demand3 2 7 0 (by 0 (Ask Load) ∷ []) (told 1 0 0 0 0
 process-invented h = omega (arith, h .records .0 .process)
 
 -- a load answered at its second step, a store done at its third, a store not done at its first;
-pub too-early : ¬ Demand3 2 7 0 (by 0 (Ask Load) ∷ step ∷ step ∷ []) (first ∷ on 1 ∷ told 0 2 2 0 7 ∷ [])
+pub too-early : ¬ Demand3 2 7 0 (by 0 (Ask Load) ∷ step ∷ step ∷ []) (taken ∷ on 1 ∷ told 0 2 2 0 7 ∷ [])
 too-early h = by-step (h .records .1 .1 .0 .allowed .2 .1)
   where
     by-step : (_≡_ {A = ℕ} 2 3) ⊎ (_≡_ {A = ℕ} 2 4) → ⊥
     by-step (inl e) = omega (arith, e)
     by-step (inr e) = omega (arith, e)
 
-pub done-early : ¬ Demand3 2 7 1 (by 0 (Ask (Store 5)) ∷ step ∷ step ∷ step ∷ []) (first ∷ on 1 ∷ on 2 ∷ told 0 3 3 0 0 ∷ [])
+pub done-early : ¬ Demand3 2 7 1 (by 0 (Ask (Store 5)) ∷ step ∷ step ∷ step ∷ []) (taken ∷ on 1 ∷ on 2 ∷ told 0 3 3 0 0 ∷ [])
 done-early h = omega (arith, h .records .1 .1 .1 .0 .allowed .2 .1)
 
-pub not-done-early : ¬ Demand3 2 7 0 (by 0 (Ask (Store 5)) ∷ step ∷ []) (first ∷ told 0 4 1 0 0 ∷ [])
+pub not-done-early : ¬ Demand3 2 7 0 (by 0 (Ask (Store 5)) ∷ step ∷ []) (taken ∷ told 0 4 1 0 0 ∷ [])
 not-done-early h = omega (arith, h .records .1 .0 .allowed .2 .1)
 
 -- a load that is answered as a check is, a store that is;
-pub load-says-yes : ¬ Demand3 2 7 0 (by 0 (Ask Load) ∷ step ∷ []) (first ∷ told 0 5 1 0 0 ∷ [])
+pub load-says-yes : ¬ Demand3 2 7 0 (by 0 (Ask Load) ∷ step ∷ []) (taken ∷ told 0 5 1 0 0 ∷ [])
 load-says-yes h = omega (arith, ap opNumber (h .records .1 .0 .allowed .2 .0))
 
-pub store-says-no : ¬ Demand3 2 7 0 (by 0 (Ask (Store 5)) ∷ step ∷ []) (first ∷ told 0 6 1 0 0 ∷ [])
+pub store-says-no : ¬ Demand3 2 7 0 (by 0 (Ask (Store 5)) ∷ step ∷ []) (taken ∷ told 0 6 1 0 0 ∷ [])
 store-says-no h = omega (arith, ap opNumber (h .records .1 .0 .allowed .2 .0))
 
 -- a change that no store made, and one that the head leaves out: the store is past its step 8, and is not answered;
-pub change-invented : ¬ Demand3 2 7 1 (by 0 (Ask Load) ∷ []) (first ∷ [])
+pub change-invented : ¬ Demand3 2 7 1 (by 0 (Ask Load) ∷ []) (taken ∷ [])
 unfolding callsFrom
 change-invented h = omega (arith, h .changesCounted)
 
-pub change-left-out : ¬ Demand3 2 7 0 (by 0 (Ask (Store 5)) ∷ step ∷ step ∷ []) (first ∷ on 1 ∷ on 2 ∷ [])
+pub change-left-out : ¬ Demand3 2 7 0 (by 0 (Ask (Store 5)) ∷ step ∷ step ∷ []) (taken ∷ on 1 ∷ on 2 ∷ [])
 unfolding callsFrom
 change-left-out h = omega (arith, h .changesCounted)
 
 -- and calls that no order gives their answers: a load of 99, which nobody stored; a check that says yes and a store that is done, and their
 -- process never loaded.
-pub load-of-99 : ¬ Demand3 2 7 0 (by 0 (Ask Load) ∷ step ∷ step ∷ step ∷ []) (first ∷ on 1 ∷ on 2 ∷ told 0 2 3 1 99 ∷ [])
+pub load-of-99 : ¬ Demand3 2 7 0 (by 0 (Ask Load) ∷ step ∷ step ∷ step ∷ []) (taken ∷ on 1 ∷ on 2 ∷ told 0 2 3 1 99 ∷ [])
 unfolding callsFrom
 load-of-99 h = some-first 7 _ _ ((λ e. omega (arith, ap answerNumber e)), tt) (h .oneOrder .inOrder)
 
-pub unlinked-yes : ¬ Demand3 2 7 0 (by 0 (Ask Check) ∷ step ∷ []) (first ∷ told 0 5 1 0 0 ∷ [])
+pub unlinked-yes : ¬ Demand3 2 7 0 (by 0 (Ask Check) ∷ step ∷ []) (taken ∷ told 0 5 1 0 0 ∷ [])
 unfolding callsFrom
 unlinked-yes h = some-first 7 _ _ ((λ e. omega (arith, ap answerNumber e)), tt) (h .oneOrder .inOrder)
 
-pub unlinked-done : ¬ Demand3 2 7 1 (by 0 (Ask (Store 5)) ∷ step ∷ step ∷ step ∷ step ∷ []) (first ∷ on 1 ∷ on 2 ∷ on 3 ∷ told 0 3 4 0 0 ∷ [])
+pub unlinked-done : ¬ Demand3 2 7 1 (by 0 (Ask (Store 5)) ∷ step ∷ step ∷ step ∷ step ∷ []) (taken ∷ on 1 ∷ on 2 ∷ on 3 ∷ told 0 3 4 0 0 ∷ [])
 unfolding callsFrom
 unlinked-done h = some-first 7 _ _ ((λ e. omega (arith, ap answerNumber e)), tt) (h .oneOrder .inOrder)
+
+-- Marks that have to fall, read beside the word: a mark on a request;
+pub mark-invented : ¬ Readings noCalls (first 7 0) (by 0 (Ask Load) ∷ []) (told 0 0 0 1 0 ∷ [])
+mark-invented h = omega (arith, h .0 .mark)
+
+-- mark 2 for a load while nobody stores; and mark 1 for a value that the word does not hold;
+pub current-called-old : ¬ Readings noCalls (first 7 0) (by 0 (Ask Load) ∷ step ∷ step ∷ step ∷ []) (taken ∷ on 1 ∷ on 2 ∷ told 0 2 3 2 7 ∷ [])
+current-called-old h = omega (arith, h .1 .1 .1 .0 .mark)
+
+pub current-of-99 : ¬ Readings noCalls (first 7 0) (by 0 (Ask Load) ∷ step ∷ step ∷ step ∷ []) (taken ∷ on 1 ∷ on 2 ∷ told 0 2 3 1 99 ∷ [])
+current-of-99 h = omega (arith, h .1 .1 .1 .0 .says refl)
+
+-- run F with the mark by the route: process 1 stands after step 1 of its load, process 0 loads and changes the word, and process 1's load is
+-- answered by step 3; "the log says "current" and the word already stands for 20"
+pub mark-by-route :
+    ¬ Readings noCalls (first 7 0)
+    (by 1 (Ask Load) ∷ by 1 Step ∷ by 0 (Ask Load) ∷ step ∷ step ∷ step ∷ by 0 (Ask (Store 20)) ∷ step ∷ step ∷ by 1 Step ∷ by 1 Step ∷ [])
+    (told 1 0 0 0 0 ∷ told 1 1 1 0 0 ∷ taken ∷ on 1 ∷ on 2 ∷ told 0 2 3 1 7 ∷ taken ∷ on 1 ∷ on 2 ∷ told 1 1 2 0 0 ∷ told 1 2 3 1 7 ∷ [])
+mark-by-route h = omega (arith, h .1 .1 .1 .1 .1 .1 .1 .1 .1 .1 .0 .mark)
+
+-- a load that is answered by step 5 and marked 1, which no state of a run allows; and a check that says yes to a process that never loaded.
+pub step-5-current : ¬ Readings noCalls (first 7 0) (by 0 (Ask Load) ∷ step ∷ step ∷ step ∷ step ∷ []) (taken ∷ on 1 ∷ on 2 ∷ on 3 ∷ told 0 2 4 1 7 ∷ [])
+step-5-current h = omega (arith, h .1 .1 .1 .1 .0 .byStep5 refl refl)
+
+pub unlinked-says-yes : ¬ Readings noCalls (first 7 0) (by 0 (Ask Check) ∷ step ∷ []) (taken ∷ told 0 5 1 0 0 ∷ [])
+unlinked-says-yes h = false≢true (h .1 .0 .says)

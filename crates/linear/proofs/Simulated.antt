@@ -1,5 +1,5 @@
--- The simulation relation holds at the start and goes on by every entry; and a store is done exactly if its process's latest step 1 saw
--- the newest change.
+-- The simulation relation holds at the start and goes on by every entry; and each record says what it should of the word: a store is done
+-- exactly if its process's latest step 1 saw the newest change, and a load's mark is 1 exactly if its own did.
 -- Assumes nothing.
 use Prim.Native.Nat.{ℕ, suc, _%_, _≤_, _<_}
 use mathlib.Core.Path.{_≡_, refl, sym, ap, _∙_, subst, subst₂}
@@ -9,29 +9,29 @@ use mathlib.Core.List.{[], _∷_, _++_, filterMap}
 use native.Mathlib.Omega.{arith}
 use native.Mathlib.Decide.{ℕ-discrete}
 use lib.Dec.{eqb}
-use borrow.Author.Tests.{ne-eqb}
+use borrow.Author.Tests.{eqb-true, ne-eqb, leb-true}
 use lib.Seq.{getD-set-same}
 use Rattle.numbers.specs.Numbers.{inRange}
 use Rattle.numbers.proofs.Range.{range-of}
-use Rattle.linear.specs.Types.{Process, Sequence, Kind, Step, Place, Idle, Load1, Load3, Load5, Store7, Store8, Check14, Outcome, GoesOn, State}
-use Rattle.step.specs.Steps.{sameTag, at, withSlot}
+use Rattle.linear.specs.Types.{Process, Sequence, Kind, Step, Place, Idle, Load1, Load3, Load5, Store7, Store8, Check14, Outcome, GoesOn, Value, Record, State}
+use Rattle.step.specs.Steps.{sameTag, at, withSlot, ownSteps, toldOf}
 use Rattle.machine.specs.State.{rowAt, recordAt, firstState}
 use Rattle.machine.specs.Entry.{called}
 use Rattle.machine.specs.Frame.{Ready}
-use Rattle.machine.specs.Run.{turnedAway, xChanged}
+use Rattle.machine.specs.Run.{turnedAway, xChanged, markBy}
 use Rattle.machine.proofs.Soundness.{sure}
-use Rattle.word.specs.Word.{none, Op, load, store, check, Answer, value, done, notDone, saysYes, saysNo, put, linked}
+use Rattle.word.specs.Word.{Link, none, Word, Op, load, store, check, Answer, value, done, notDone, saysYes, saysNo, put, linked, first}
 use Rattle.word.specs.Word as word
-use Rattle.word.specs.Calls.{Item, Calls, isStore, noCalls, callBy, decides, goOn}
+use Rattle.word.specs.Calls.{Item, away, Calls, isStore, noCalls, callBy, decides, goOn}
 use Rattle.word.proofs.Put.{split, put-same, put-other}
 use Rattle.word.proofs.Changes.{total, valueAfter}
 use Rattle.word.proofs.Good.{good-start, late-new, Late}
 use Rattle.linear.specs.Demand3.{stepOfStore}
-use Rattle.linear.specs.Linked.{Marks, noMarks, isLoad, markOn, LinkedAt}
+use Rattle.linear.specs.Readings.{isLoad, stored, wordOn, markAt, SaysAt, Reading}
 use Rattle.linear.proofs.Lift.{guard-low}
 use Rattle.linear.proofs.History.{At}
 use Rattle.linear.proofs.Invariant.{slotOf}
-use Rattle.linear.proofs.Consequences.{place-low, old-place, tag-test}
+use Rattle.linear.proofs.Consequences.{place-low, old-place, tag-test, five-behind}
 use Rattle.linear.proofs.View.{View, viewOf}
 use Rattle.linear.proofs.Moved.{tag-below}
 use Rattle.linear.proofs.Kept.{one-at, seen-at, kept-calm, kept-1, kept-2, kept-3, kept-7, kept-8, kept-9, kept-10}
@@ -39,15 +39,15 @@ use Rattle.linear.proofs.Start.{idle-start, firstChange, inv-start}
 use Rattle.linear.proofs.Side.{LinkOk, LateFor, Side, SideAt, Sim, way-same, undecided-on, loading-on}
 use Rattle.linear.proofs.Join.{sim-tick, side-at, sim-quiet, sim-still, sim-request, sim-load, agree, sim-append, sim-done}
 use Rattle.linear.proofs.Cases.{Turned, Cases, by-cases}
-use Rattle.linear.proofs.Noted.{noteWith, came, item-away}
+use Rattle.linear.proofs.Noted.{entryOf, noteWith, came, item-away, away-plain}
 use Rattle.linear.proofs.Known.{KnownIn, known-at, decides-at, load-stores}
 
--- the calls, the marks, and that every call is on word 0
-pub record Simulated (v : ℕ) (st : State) (c : Calls ℕ) (m : Marks) : Type 0 where
-  pub sim : Sim v (viewOf st) (c .now) (c .asked) (c .op) (c .played) (m .latest) (m .changes)
+-- the calls, the word as the steps leave it, and that every call is on word 0
+pub record Simulated (v : ℕ) (st : State) (c : Calls ℕ) (m : Word ℕ) : Type 0 where
+  pub sim : Sim v (viewOf st) (c .now) (c .asked) (c .op) (c .played) (m .link) (m .count) (m .current)
   pub one : (q : ℕ) → c .word q ≡ 0
 
-pub sim-start : (n : ℕ) (s : Sequence) (v : ℕ) → inRange n s ≡ true → Simulated v (firstState n s v) noCalls noMarks
+pub sim-start : (n : ℕ) (s : Sequence) (v : ℕ) → inRange n s ≡ true → Simulated v (firstState n s v) noCalls (first v 0)
 unfolding filterMap
 sim-start n s v e =
     record {
@@ -56,6 +56,7 @@ sim-start n s v e =
         order = [];
         good = good-start v;
         count = refl;
+        newest = refl;
         inv = inv-start n s v e;
         vals = vals;
         sides = λ q l. sides q (omega (arith, l, range-of n s e .few));
@@ -90,63 +91,95 @@ and-no : (b : Bool) → (b && false) ≡ false
 and-no true = refl
 and-no false = refl
 
-module _ {v : ℕ} {st : State} (c : Calls ℕ) (m : Marks) (simulated : Simulated v st c m) (known : KnownIn st c) (ready : Ready st) (p : Process) where
+module _ {v : ℕ} {st : State} (c : Calls ℕ) (m : Word ℕ) (simulated : Simulated v st c m) (known : KnownIn st c) (ready : Ready st) (p : Process) where
   abbrev pub Next : Kind → State → Outcome → Bool → Type 0
-  Next k st′ o b = Simulated v st′ (goOn stepOfStore c (came st p k o)) (markOn c m (came st p k o)) × LinkedAt c m (came st p k o)
+  Next k st′ o b = Simulated v st′ (goOn stepOfStore c (came st p k st′ o)) (wordOn c m (came st p k st′ o)) × Reading c m (entryOf p k) (noteWith st p k st′ o)
 
-  abbrev s : Sim v (viewOf st) (c .now) (c .asked) (c .op) (c .played) (m .latest) (m .changes)
+  abbrev s : Sim v (viewOf st) (c .now) (c .asked) (c .op) (c .played) (m .link) (m .count) (m .current)
   s = simulated .sim
 
   away-next : (k : Kind) (o : Outcome) → turnedAway o ≡ true → Turned st (p .0) k o → Next k st o false
   away-next k o e why =
-      subst (λ (i : Item ℕ). Simulated v st (goOn stepOfStore c i) (markOn c m i) × LinkedAt c m i) (sym (item-away (p .0) k (noteWith st p k o) e))
-      (record { sim = sim-tick s; one = simulated .one }, tt)
+      let none : came st p k st o ≡ away = item-away (p .0) k (noteWith st p k st o) e in (
+        subst (λ (i : Item ℕ). Simulated v st (goOn stepOfStore c i) (wordOn c m i)) (sym none) (record { sim = sim-tick s; one = simulated .one }),
+        record {
+          mark = away-plain o e .0 (st .x) (recordAt st (p .0) .kept) ∙ ap (markAt m) (sym none);
+          byStep5 = λ two. absurd (omega (arith, two, leb-true 11 (toldOf o .number) e));
+          says = subst (SaysAt c m) (sym none) tt;
+        },
+      )
 
   -- a request is on word 0
   asked-one : (q : ℕ) → put (p .0) 0 (c .word) q ≡ 0
   asked-one = split (λ q. put (p .0) 0 (c .word) q ≡ 0) (p .0) (put-same (p .0) 0 (c .word)) (λ q ne. put-other (p .0) 0 (c .word) q ne ∙ simulated .one q)
 
   -- a call that is played on word 0 is played on its own
-  on-own-word : {st′ : View} {now : ℕ} {changes : ℕ} (o : Op ℕ) (a : Answer ℕ)
-      → Sim v st′ now (c .asked) (c .op) (c .played ++ record { asked = c .asked (p .0); decided = c .now; process = p .0; word = 0; op = o; answer = a } ∷ []) (m .latest) changes
-      → Sim v st′ now (c .asked) (c .op) (c .played ++ record { asked = c .asked (p .0); decided = c .now; process = p .0; word = c .word (p .0); op = o; answer = a } ∷ []) (m .latest) changes
-  on-own-word {st′} {now} {changes} o a =
+  on-own-word : {st′ : View} {now : ℕ} {changes current : ℕ} (o : Op ℕ) (a : Answer ℕ)
+      → Sim v st′ now (c .asked) (c .op) (c .played ++ record { asked = c .asked (p .0); decided = c .now; process = p .0; word = 0; op = o; answer = a } ∷ []) (m .link) changes current
+      → Sim v st′ now (c .asked) (c .op) (c .played ++ record { asked = c .asked (p .0); decided = c .now; process = p .0; word = c .word (p .0); op = o; answer = a } ∷ []) (m .link) changes current
+  on-own-word {st′} {now} {changes} {current} o a =
       subst
-      (λ (w : ℕ). Sim v st′ now (c .asked) (c .op) (c .played ++ record { asked = c .asked (p .0); decided = c .now; process = p .0; word = w; op = o; answer = a } ∷ []) (m .latest) changes)
+      (λ (w : ℕ). Sim v st′ now (c .asked) (c .op) (c .played ++ record { asked = c .asked (p .0); decided = c .now; process = p .0; word = w; op = o; answer = a } ∷ []) (m .link) changes current)
       (sym (simulated .one (p .0)))
 
   -- a step after which the call goes on: whether it decides a store (d), and whether it is a load's first (f)
   goes-on : {st′ : State} (d f : Bool) → decides stepOfStore c (p .0) ≡ d → (isLoad (c .op (p .0)) && eqb (c .steps (p .0)) 0) ≡ f
       → Sim v (viewOf st′) (suc (c .now)) (c .asked) (c .op) (cond d (c .played ++ callBy c (p .0) done ∷ []) (c .played))
-      (cond f (put (p .0) (word.at (m .changes)) (m .latest)) (m .latest)) (cond d (suc (m .changes)) (m .changes))
-      → (d ≡ true → linked (m .latest (p .0)) (m .changes) ≡ true)
+      (cond f (put (p .0) (word.at (m .count)) (m .link)) (m .link)) (cond d (suc (m .count)) (m .count)) (cond d (stored (c .op (p .0)) (m .current)) (m .current))
+      → (d ≡ true → linked (m .link (p .0)) (m .count) ≡ true)
       → Next Step st′ GoesOn d
   goes-on {st′} d f e g sim right = (
     record {
       sim =
           subst₂
           (λ (d f : Bool). Sim v (viewOf st′) (suc (c .now)) (c .asked) (c .op) (cond d (c .played ++ callBy c (p .0) done ∷ []) (c .played))
-          (cond f (put (p .0) (word.at (m .changes)) (m .latest)) (m .latest)) (cond d (suc (m .changes)) (m .changes)))
+          (cond f (put (p .0) (word.at (m .count)) (m .link)) (m .link)) (cond d (suc (m .count)) (m .count)) (cond d (stored (c .op (p .0)) (m .current)) (m .current)))
           (sym e) (sym g) sim;
       one = simulated .one;
     },
-    λ t. right (sym e ∙ t),
+    record { mark = refl; byStep5 = λ two. absurd (omega (arith, two)); says = λ t. right (sym e ∙ t) },
   )
 
   module _ (l : p .0 < st .n) where
     -- a load's step that goes on, its rank not 1; a store's that decides nothing
     load-goes : {st′ : State} (n : ℕ) → c .op (p .0) ≡ load → suc (c .steps (p .0)) ≡ suc (suc n)
-        → Sim v (viewOf st′) (suc (c .now)) (c .asked) (c .op) (c .played) (m .latest) (m .changes) → Next Step st′ GoesOn false
+        → Sim v (viewOf st′) (suc (c .now)) (c .asked) (c .op) (c .played) (m .link) (m .count) (m .current) → Next Step st′ GoesOn false
     load-goes n o k sim =
         let later : eqb (c .steps (p .0)) 0 ≡ false = ne-eqb (c .steps (p .0)) 0 (λ z. omega (arith, k, z)) in
         goes-on false false (decides-at c (p .0) (suc (suc n)) false (load-stores o) k)
         (ap (λ (b : Bool). isLoad (c .op (p .0)) && b) later ∙ and-no (isLoad (c .op (p .0)))) sim (λ t. absurd (false≢true t))
 
     store-goes : {st′ : State} (n : ℕ) → (true && eqb n stepOfStore) ≡ false → isStore (c .op (p .0)) ≡ true → suc (c .steps (p .0)) ≡ n
-        → Sim v (viewOf st′) (suc (c .now)) (c .asked) (c .op) (c .played) (m .latest) (m .changes) → Next Step st′ GoesOn false
+        → Sim v (viewOf st′) (suc (c .now)) (c .asked) (c .op) (c .played) (m .link) (m .count) (m .current) → Next Step st′ GoesOn false
     store-goes n other o k sim =
         goes-on false false (decides-at c (p .0) n true o k ∙ other)
         (ap (λ (b : Bool). b && eqb (c .steps (p .0)) 0) (store-no-load (c .op (p .0)) o)) sim (λ t. absurd (false≢true t))
+
+    -- X is the kept tag exactly if what was seen is the newest change
+    tested : {b : Bool} → sameTag (st .x) (recordAt st (p .0) .kept) ≡ b → linked (m .link (p .0)) (m .count) ≡ b
+    tested {b} t = ap (linked (m .link (p .0))) (sym (s .count)) ∙ sym (tag-test (s .inv) (p .0) l) ∙ t
+
+    -- the value after the change that was seen is the word's value, if that change is the newest
+    newest-value : (i u : ℕ) → m .link (p .0) ≡ word.at i → valueAfter 0 i v (s .order) ≡ u → linked (m .link (p .0)) (m .count) ≡ true → u ≡ m .current
+    newest-value i u sn val t =
+        let newest : i ≡ m .count = eqb-true i (m .count) (sym (ap (λ (k : Link). linked k (m .count)) sn) ∙ t) in
+        sym val ∙ ap (λ (j : ℕ). valueAfter 0 j v (s .order)) (newest ∙ sym (s .count)) ∙ s .newest
+
+    -- An answered load: the step has left X and the kept tag as they were, so its mark is the test's answer.
+    load-reads : (st′ : State) (u : ℕ) → st′ .x ≡ st .x → recordAt st′ (p .0) .kept ≡ recordAt st (p .0) .kept
+        → (ownSteps (recordAt st (p .0) .place) ≡ 4 → sameTag (st .x) (recordAt st (p .0) .kept) ≡ false)
+        → (linked (m .link (p .0)) (m .count) ≡ true → u ≡ m .current)
+        → Reading c m (entryOf p Step) (noteWith st p Step st′ (Value u))
+    load-reads st′ u x kept behind says =
+        let same : markBy 2 (st′ .x) (recordAt st′ (p .0) .kept) ≡ markBy 2 (st .x) (recordAt st (p .0) .kept) = cc (x, kept) in
+        record {
+          mark = same ∙ ap (λ (b : Bool). cond b 1 2) (sym (tested refl));
+          byStep5 = λ two four. same ∙ ap (λ (b : Bool). cond b 1 2) (behind four);
+          says = says;
+        }
+
+    behind : recordAt st (p .0) .place ≡ Load5 → sameTag (st .x) (recordAt st (p .0) .kept) ≡ false
+    behind e = five-behind (s .inv) (p .0) l (tag-below st (p .0) ready l) e
 
     cases : Cases Next st (p .0)
     cases =
@@ -158,7 +191,7 @@ module _ {v : ℕ} {st : State} (c : Calls ℕ) (m : Marks) (simulated : Simulat
                   (λ und. record { link = side-at s (p .0) l e .link; call = und });
               one = asked-one;
             },
-            tt,
+            record { mark = refl; byStep5 = λ two. absurd (omega (arith, two)); says = tt },
           );
           asks-store = λ u e st′ x mv. (
             record {
@@ -167,7 +200,7 @@ module _ {v : ℕ} {st : State} (c : Calls ℕ) (m : Marks) (simulated : Simulat
                   (λ und. record { link = side-at s (p .0) l e .link; call = und });
               one = asked-one;
             },
-            tt,
+            record { mark = refl; byStep5 = λ two. absurd (omega (arith, two)); says = tt },
           );
           asks-check = λ e st′ x mv. (
             record {
@@ -176,13 +209,13 @@ module _ {v : ℕ} {st : State} (c : Calls ℕ) (m : Marks) (simulated : Simulat
                   (λ und. record { link = side-at s (p .0) l e .link; call = und });
               one = asked-one;
             },
-            tt,
+            record { mark = refl; byStep5 = λ two. absurd (omega (arith, two)); says = tt },
           );
           step-1 = λ e st′ x mv.
               let o = known-at known (p .0) l e .0 in
               goes-on false true (decides-at c (p .0) 1 false (load-stores (o .asks)) (o .counted))
               (ap (λ (j : Op ℕ). isLoad j && eqb (c .steps (p .0)) 0) (o .asks) ∙ ap (λ (j : ℕ). eqb j 0) (none-yet (o .counted)))
-              (subst (λ (t : ℕ). Sim v (viewOf st′) (suc (c .now)) (c .asked) (c .op) (c .played) (put (p .0) (word.at t) (m .latest)) (m .changes)) (s .count)
+              (subst (λ (t : ℕ). Sim v (viewOf st′) (suc (c .now)) (c .asked) (c .op) (c .played) (put (p .0) (word.at t) (m .link)) (m .count) (m .current)) (s .count)
               (sim-quiet s (p .0) l (word.at (total 0 (s .order))) mv (kept-1 (viewOf st) (p .0) (s .inv) l e mv x)
               (record { link = tt; call = (undecided-on (way-same v (c .now) (s .order) (p .0)) (side-at s (p .0) l e .call), first-seen) })))
               (λ t. absurd (false≢true t));
@@ -203,7 +236,8 @@ module _ {v : ℕ} {st : State} (c : Calls ℕ) (m : Marks) (simulated : Simulat
                       (link-here (total 0 (s .order)) i (place-low (s .inv) i _ _ _ a)));
                   one = simulated .one;
                 },
-                tt,
+                load-reads st′ u x (ap (λ (o : Record). o .kept) (mv .own))
+                    (λ four. absurd (omega (arith, four, ap ownSteps e))) (newest-value i u sn (s .vals i _ _ u a)),
               );
           step-3-goes-on = λ u e far st′ x mv.
               let o = known-at known (p .0) l e .0 in
@@ -224,7 +258,7 @@ module _ {v : ℕ} {st : State} (c : Calls ℕ) (m : Marks) (simulated : Simulat
                       (inr (lt, omega (arith, le, lt))));
                   one = simulated .one;
                 },
-                tt,
+                load-reads st′ _ x (ap (λ (o : Record). o .kept) (mv .own)) (λ four. behind e) (λ t. absurd (false≢true (sym (tested (behind e)) ∙ t))),
               );
           step-7 = λ u e st′ x mv.
               let o = known-at known (p .0) l e .0 in
@@ -238,8 +272,10 @@ module _ {v : ℕ} {st : State} (c : Calls ℕ) (m : Marks) (simulated : Simulat
           step-8-done = λ e same st′ x mv.
               let o = known-at known (p .0) l e .0 in
               goes-on true false (decides-at c (p .0) 2 true (o .asks) (o .counted)) (ap (λ (b : Bool). b && eqb (c .steps (p .0)) 0) (store-no-load (c .op (p .0)) (o .asks)))
+              (subst (λ (u : ℕ). Sim v (viewOf st′) (suc (c .now)) (c .asked) (c .op) (c .played ++ callBy c (p .0) done ∷ []) (m .link) (suc (m .count)) u)
+              (sym (ap (λ (j : Op ℕ). stored j (m .current)) (side-at s (p .0) l e .call .kind)))
               (on-own-word (c .op (p .0)) done
-              (sim-done s (p .0) l refl mv (kept-8 (viewOf st) (p .0) (s .inv) l e x mv) (side-at s (p .0) l e .call) (side-at s (p .0) l e .link) same))
+              (sim-done s (p .0) l refl mv (kept-8 (viewOf st) (p .0) (s .inv) l e x mv) (side-at s (p .0) l e .call) (side-at s (p .0) l e .link) same)))
               (λ t. tested same);
           step-8-not-done = λ e other st′ x mv. (
             record {
@@ -250,7 +286,7 @@ module _ {v : ℕ} {st : State} (c : Calls ℕ) (m : Marks) (simulated : Simulat
                   (ap (λ (b : Bool). cond b done notDone) (agree s (p .0) l (side-at s (p .0) l e .link) ∙ other)));
               one = simulated .one;
             },
-            tested other,
+            record { mark = refl; byStep5 = λ two. absurd (omega (arith, two)); says = tested other },
           );
           step-9 = λ e st′ x mv.
               let o = known-at known (p .0) l e .0 in
@@ -261,7 +297,7 @@ module _ {v : ℕ} {st : State} (c : Calls ℕ) (m : Marks) (simulated : Simulat
               sim = sim-still s (p .0) l mv (kept-10 (viewOf st) (p .0) (s .inv) l e mv x) (record { link = side-at s (p .0) l e .link; call = tt });
               one = simulated .one;
             },
-            tt,
+            record { mark = refl; byStep5 = λ two. absurd (omega (arith, two)); says = tt },
           );
           step-14-yes = λ e same st′ x mv. (
             record {
@@ -272,7 +308,7 @@ module _ {v : ℕ} {st : State} (c : Calls ℕ) (m : Marks) (simulated : Simulat
                   (ap (λ (b : Bool). cond b saysYes saysNo) (agree s (p .0) l (side-at s (p .0) l e .link) ∙ same)));
               one = simulated .one;
             },
-            tt,
+            record { mark = refl; byStep5 = λ two. absurd (omega (arith, two)); says = tested same },
           );
           step-14-no = λ e other st′ x mv. (
             record {
@@ -283,7 +319,7 @@ module _ {v : ℕ} {st : State} (c : Calls ℕ) (m : Marks) (simulated : Simulat
                   (ap (λ (b : Bool). cond b saysYes saysNo) (agree s (p .0) l (side-at s (p .0) l e .link) ∙ other)));
               one = simulated .one;
             },
-            tt,
+            record { mark = refl; byStep5 = λ two. absurd (omega (arith, two)); says = tested other },
           );
         }
       where
@@ -301,10 +337,6 @@ module _ {v : ℕ} {st : State} (c : Calls ℕ) (m : Marks) (simulated : Simulat
 
         none-yet : suc (c .steps (p .0)) ≡ 1 → c .steps (p .0) ≡ 0
         none-yet k = omega (arith, k)
-
-        -- X is the kept tag exactly if what was seen is the newest change
-        tested : {b : Bool} → sameTag (st .x) (recordAt st (p .0) .kept) ≡ b → linked (m .latest (p .0)) (m .changes) ≡ b
-        tested {b} t = ap (linked (m .latest (p .0))) (sym (s .count)) ∙ sym (tag-test (s .inv) (p .0) l) ∙ t
 
   -- Every entry carries the relation on.
   pub sim-entry : (k : Kind) → Next k (called st p k .state) (called st p k .outcome) (xChanged st (called st p k .state))

@@ -1,19 +1,16 @@
 -- Demand 3 of a log: its records are read beside the entries that they are of, and with the head's count of changes they say what the
--- atomic linked word of word/specs says. No state of the machine stands in it. At the end: demand 3 of every accepted file and its log.
+-- atomic linked word of word/specs says. No state of the machine stands in it.
 -- Assumes nothing.
-use Prim.Native.Nat.{ℕ, suc, _-_, _≤_, _<_}
+use Prim.Native.Nat.{ℕ, suc, _≤_, _<_}
 use mathlib.Core.Path.{_≡_}
 use mathlib.Core.Bool.{Bool, true, false, cond}
 use mathlib.Core.Logic.{_⊎_}
 use mathlib.Core.List.{List, [], _∷_}
 use lib.Dec.{eqb}
-use lib.ListN.{take, getD, length}
-use Rattle.linear.specs.Types.{Entry, Kind, Ask, Step, Request, Load, Store, Check, Note, Accepted}
-use Rattle.word.specs.Word.{Op, load, store, check, Answer, value, done, notDone, saysYes, saysNo, Every}
+use lib.ListN.{getD}
+use Rattle.linear.specs.Types.{Entry, Kind, Ask, Step, Request, Load, Store, Check, Note}
+use Rattle.word.specs.Word.{Op, load, store, check, Answer, value, done, notDone, saysYes, saysNo}
 use Rattle.word.specs.Calls.{Item, asks, goes, answers, away, Calls, isStore, noCalls, goOn, callsFrom, doneCount, OneOrder}
-use Rattle.schedule.specs.File.{reading, fileEntries}
-use Rattle.log.specs.Log.{headOf, logLength, headIn, notesIn}
-use Rattle.bench.specs.Bench.{logAfter}
 
 -- a store is decided by step 8, its second own step
 abbrev pub stepOfStore : ℕ
@@ -46,30 +43,29 @@ itemsOf (e ∷ es) (w ∷ ws) = itemOf e w ∷ itemsOf es ws
 abbrev pub callsIn : List Entry → List Note → Calls ℕ
 callsIn es ws = callsFrom stepOfStore noCalls (itemsOf es ws)
 
--- What a record must say beside its outcome, counted over the entries: own steps, mark, value.
+-- What a record must say beside its outcome, counted over the entries: own steps and value. (The mark is read beside the word, by
+-- `Readings` in Readings.antt.)
 pub record Counted : Type 0 where
   pub steps : ℕ
-  pub mark : ℕ
   pub value : ℕ
 
-abbrev pub counts : ℕ → ℕ → ℕ → Counted
-counts steps mark v = record { steps = steps; mark = mark; value = v }
+abbrev pub counts : ℕ → ℕ → Counted
+counts steps v = record { steps = steps; value = v }
 
--- "Mark: 1 "current" for an LL answered by step 3, 2 "old" for one answered by step 5, else 0. Value: the LL's answer, else 0." Step 3 is
--- a load's third own step, and step 5 its fourth.
+-- "Value: the LL's answer, else 0."
 abbrev pub countedAnswer : ℕ → Answer ℕ → Counted
-countedAnswer k (value v) = counts k (k - 2) v
-countedAnswer k done = counts k 0 0
-countedAnswer k notDone = counts k 0 0
-countedAnswer k saysYes = counts k 0 0
-countedAnswer k saysNo = counts k 0 0
+countedAnswer k (value v) = counts k v
+countedAnswer k done = counts k 0
+countedAnswer k notDone = counts k 0
+countedAnswer k saysYes = counts k 0
+countedAnswer k saysNo = counts k 0
 
 -- "own steps of this call so far with this one (0 for a request or a refused entry)"
 abbrev pub counted : Calls ℕ → Item ℕ → Counted
-counted c (asks p w o) = counts 0 0 0
-counted c (goes p) = counts (suc (c .steps p)) 0 0
+counted c (asks p w o) = counts 0 0
+counted c (goes p) = counts (suc (c .steps p)) 0
 counted c (answers p a) = countedAnswer (suc (c .steps p)) a
-counted c away = counts 0 0 0
+counted c away = counts 0 0
 
 -- A call goes on at a load's first three own steps, at a store's first three, and never at a check's. (That a store's second goes on
 -- exactly if X changed is what `changes` counts below, and `ChangesDecide` says entry by entry.)
@@ -79,7 +75,7 @@ MayGoOn (store v) k = k ≤ 3
 MayGoOn check k = ⊥
 
 -- "A load is answered at its third own step .. or fourth .., a store that fails at its second, one that succeeds at its fourth, a check
--- at its first."
+-- at its first." The third is step 3, the fourth step 5.
 abbrev pub MayAnswer : Op ℕ → Answer ℕ → ℕ → Type 0
 MayAnswer o (value v) k = (o ≡ load) × ((k ≡ 3) ⊎ (k ≡ 4))
 MayAnswer o done k = (isStore o ≡ true) × (k ≡ 4)
@@ -105,7 +101,6 @@ Allowed n c e o away = ((o ≡ 11) × (n ≤ e .process .0)) ⊎ ((e .process .0
 pub record RightRecord (n : ℕ) (c : Calls ℕ) (e : Entry) (w : Note) : Type 0 where
   pub process : w .process ≡ e .process .0
   pub steps : w .steps ≡ counted c (itemOf e w) .steps
-  pub mark : w .mark ≡ counted c (itemOf e w) .mark
   pub value : w .value ≡ counted c (itemOf e w) .value
   pub allowed : Allowed n c e (w .outcome) (itemOf e w)
 
@@ -122,17 +117,3 @@ pub record Demand3 (n v changes : ℕ) (es : List Entry) (ws : List Note) : Type
   pub records : RightRecords n noCalls es ws
   -- "how often X has changed": the stores that were decided as done, answered or not
   pub changesCounted : changes ≡ doneCount (callsIn es ws .played)
-
--- What people hold in their hands: a file of N n and first value v with c entries, and the log of its run. The log's first twelve bytes are
--- a head of c entries, its changes and n; its records, read back from its bytes, are those of the file's entries; and they and the head's
--- count of changes meet demand 3.
-pub record LogOfFile (n v c : ℕ) (file log : List ℕ) : Type 0 where
-  pub head : take 12 log ≡ headOf c (headIn log .changes) n
-  pub long : logLength c ≤ length log
-  pub calls : Demand3 n v (headIn log .changes) (fileEntries file) (notesIn log)
-
--- "The answered calls of every accepted file": for every list of bytes that the reader accepts, and every lent log that is long enough,
--- whatever it held.
-abbrev pub Demand3OfFile : List ℕ → Type 0
-Demand3OfFile f =
-    Every (λ b. b < 256) f → (n s v c : ℕ) → reading f ≡ Accepted n s v c → (log : List ℕ) → logLength c ≤ length log → LogOfFile n v c f (logAfter f log)

@@ -1,3 +1,4 @@
 pub mod Types
-pub mod Linked
+pub mod Readings
 pub mod Demand3
+pub mod OfFile

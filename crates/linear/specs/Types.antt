@@ -5,7 +5,7 @@ pub use Rattle.step.specs.declared.Entry.{Entry}
 pub use Rattle.step.specs.declared.Kind.{Kind}
 pub use Rattle.step.specs.declared.Kind.the-variants.{Ask, Step}
 pub use Rattle.step.specs.declared.Outcome.{Outcome}
-pub use Rattle.step.specs.declared.Outcome.the-variants.{Taken, GoesOn, Current, Old, Done, NotDone, Yes, No, NoProcess, CallOpen, UsedUp, NoCall, Unsound}
+pub use Rattle.step.specs.declared.Outcome.the-variants.{Taken, GoesOn, Value, Done, NotDone, Yes, No, NoProcess, CallOpen, UsedUp, NoCall, Unsound}
 pub use Rattle.step.specs.declared.Place.{Place}
 pub use Rattle.step.specs.declared.Place.the-variants.{Idle, Load1, Load2, Load3, Load5, Store7, Store8, Store9, Store10, Check14}
 pub use Rattle.step.specs.declared.Record.{Record}

@@ -6,7 +6,7 @@ use lib.Dec.{leb, ltb}
 use Rattle.machine.specs.Types.{Process, Kind, Ask, Step, Request, Load, Store, Check, Record, Row, Place, Idle, Load1, Load2, Load3, Load5, Store7, Store8, Store9, Store10, Check14, State}
 use Rattle.step.specs.Steps.{isNear, sameTag, idle}
 use Rattle.machine.specs.State.{sound, rowAt, recordAt}
-use Rattle.machine.specs.Run.{EntryNote}
+use Rattle.machine.specs.Run.{EntryNote, markBy}
 
 -- outcome, own steps, mark, value
 pub record Numbers : Type 0 where
@@ -28,14 +28,18 @@ ofRequest st p Load = noSteps 0
 ofRequest st p (Store v) = cond (leb (recordAt st (p .0) .next .0) (st .s .0)) (noSteps 0) (noSteps 13)
 ofRequest st p Check = noSteps 0
 
+-- "LL answered", after so many steps: with the mark, for steps 3 and 5 leave X and the kept tag as they are, and the value
+abbrev pub ofLoad : State → Record → ℕ → ℕ → Numbers
+ofLoad st own steps v = numbers 2 steps (markBy 2 (st .x) (own .kept)) v
+
 -- "1 step taken, call goes on; 2 LL answered; 3 SC done; 4 SC not done; 5 VL yes; 6 VL no"; 14: "step of an idle process". [q, k] is the
 -- kept tag, and q's row is given.
 abbrev pub ofStep : State → Record → Row → Place → Numbers
 ofStep st own row Idle = noSteps 14
 ofStep st own row Load1 = numbers 1 1 0 0
 ofStep st own row Load2 = numbers 1 2 0 0
-ofStep st own row (Load3 v) = cond (isNear (row .«old_number») (own .kept .number .0)) (numbers 2 3 1 v) (numbers 1 3 0 0)
-ofStep st own row Load5 = numbers 2 4 2 (row .«old_value»)
+ofStep st own row (Load3 v) = cond (isNear (row .«old_number») (own .kept .number .0)) (ofLoad st own 3 v) (numbers 1 3 0 0)
+ofStep st own row Load5 = ofLoad st own 4 (row .«old_value»)
 ofStep st own row (Store7 v) = numbers 1 1 0 0
 ofStep st own row Store8 = cond (sameTag (st .x) (own .kept)) (numbers 1 2 0 0) (numbers 4 2 0 0)
 ofStep st own row Store9 = numbers 1 3 0 0

@@ -2,9 +2,9 @@
 use Prim.Native.Nat.{ℕ, suc}
 use mathlib.Core.Bool.{Bool, not, cond}
 use mathlib.Core.List.{List, [], _∷_}
-use lib.Dec.{leb}
+use lib.Dec.{eqb, leb}
 use Rattle.step.specs.Steps.{sameTag, ownSteps, toldOf}
-use Rattle.machine.specs.Types.{Process, Place, Outcome, State, Kind, Ask, Step, Entry, Answer}
+use Rattle.machine.specs.Types.{Process, Tag, Place, Outcome, State, Kind, Ask, Step, Entry, Answer}
 use Rattle.machine.specs.State.{recordAt}
 use Rattle.machine.specs.Entry.{called}
 
@@ -36,6 +36,11 @@ stepsOf st p kind outcome = stepsBy (recordAt st (p .0) .place) kind outcome
 abbrev pub xChanged : State → State → Bool
 xChanged before after = not (sameTag (before .x) (after .x))
 
+-- Document 02, P3: "From now on the bench, not the step, looks at X: mark 1 if it equals the kept tag straight after the load's last step,
+-- else 2." x and kept are X and its process's kept tag after the entry, and 2 is the outcome "LL answered"; for every other the mark is 0.
+abbrev pub markBy : ℕ → Tag → Tag → ℕ
+markBy outcome x kept = cond (eqb outcome 2) (cond (sameTag x kept) 1 2) 0
+
 abbrev pub noteOf : State → Entry → EntryNote
 noteOf st e =
     let a = played st e in
@@ -43,7 +48,7 @@ noteOf st e =
       outcome = toldOf (a .outcome) .number;
       process = e .process .0;
       steps = stepsOf st (e .process) (e .kind) (a .outcome);
-      mark = toldOf (a .outcome) .mark;
+      mark = markBy (toldOf (a .outcome) .number) (a .state .x) (recordAt (a .state) (e .process .0) .kept);
       value = toldOf (a .outcome) .value;
       changed = xChanged st (a .state);
     }

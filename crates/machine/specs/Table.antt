@@ -1,5 +1,5 @@
--- Document 01, "Runs beside each edge", A to L: each line is an entry and what the log must say of it. "LL1" is the request and
--- all steps.
+-- Document 01, "Runs beside each edge", A to L, with document 02's mark (P3: "Run F becomes mark 2. Runs G, H, I .. stay."): each line is an
+-- entry and what the log must say of it. "LL1" is the request and all steps.
 use Prim.Native.Nat.{ℕ}
 use mathlib.Core.Path.{_≡_}
 use mathlib.Core.Bool.{Bool, true, false}
@@ -74,7 +74,7 @@ pub record RunsAToL : Type 0 where
   pub C : Right 2 9 7 (requestTaken 0 Check ∷ saysNoVL 0 ∷ [])
   pub D : Right 2 9 7 (LL 1 7 ++ (SC 1 40 ++ SCfails 1 41))
   pub E : Right 2 9 7 (LL 1 7 ++ (LL 0 7 ++ (SC 0 20 ++ (LL 0 20 ++ (SC 0 7 ++ SCfails 1 99)))))
-  pub F : Right 2 9 7 (requestTaken 1 Load ∷ stepTaken 1 1 ∷ (LL 0 7 ++ (SCtwo 0 20 ++ (stepTaken 1 2 ∷ answersLL 1 3 1 7 ∷ []))))
+  pub F : Right 2 9 7 (requestTaken 1 Load ∷ stepTaken 1 1 ∷ (LL 0 7 ++ (SCtwo 0 20 ++ (stepTaken 1 2 ∷ answersLL 1 3 2 7 ∷ []))))
   pub G : Right 2 9 7 (LL 0 7 ++ (SCtwo 0 20 ++ LL 1 20))
   pub H : Right 2 9 7 (behind ++ (requestTaken 0 (Store 30) ∷ stepTaken 0 1 ∷ stepTaken 1 2 ∷ stepTaken 1 3 ∷ answersLL 1 4 2 7 ∷ []))
   pub I : Right 2 9 7 (behind ++ (SC 0 30 ++ (stepTaken 1 2 ∷ stepTaken 1 3 ∷ answersLL 1 4 2 20 ∷ [])))

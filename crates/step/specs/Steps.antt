@@ -5,7 +5,7 @@ use mathlib.Core.Bool.{true, Bool, false, _&&_, _||_, cond}
 use lib.Dec.{eqb, leb}
 use lib.IntN.{ℤ, pos, negsuc, _-ℤ_}
 use lib.Signed.{leZ}
-use Rattle.step.specs.Types.{Tag, Row, Process, Sequence, Place, Idle, Load1, Load2, Load3, Load5, Store7, Store8, Store9, Store10, Check14, Record, Outcome, GoesOn, Current, Old, Done, NotDone, Yes, No, NoCall, Unsound, Stepped, Taken, CallOpen, UsedUp, Request, Load, Store, Check, Requested, NoProcess, Told}
+use Rattle.step.specs.Types.{Tag, Row, Process, Sequence, Place, Idle, Load1, Load2, Load3, Load5, Store7, Store8, Store9, Store10, Check14, Record, Outcome, GoesOn, Value, Done, NotDone, Yes, No, NoCall, Unsound, Stepped, Taken, CallOpen, UsedUp, Request, Load, Store, Check, Requested, NoProcess, Told}
 use lib.ListN.{getD, set}
 
 -- whether two integers are equal
@@ -69,11 +69,11 @@ step2 x own row = goesOn x (at own (Load3 (slot row (own .kept .number)))) row
 
 -- "Step 3: read q's old number. If it is k - 2 or k - 1, the call is answered with the value from step 2. Otherwise it goes on."
 abbrev pub step3 : Tag → Record → Row → ℕ → Stepped
-step3 x own row v = cond (isNear (row .«old_number») (own .kept .number .0)) (answered x own row (Current v)) (goesOn x (at own Load5) row)
+step3 x own row v = cond (isNear (row .«old_number») (own .kept .number .0)) (answered x own row (Value v)) (goesOn x (at own Load5) row)
 
 -- "Step 5: read q's old value. It is the answer."
 abbrev pub step5 : Tag → Record → Row → Stepped
-step5 x own row = answered x own row (Old (row .«old_value»))
+step5 x own row = answered x own row (Value (row .«old_value»))
 
 -- "Step 7: p's slot (next number mod 2) becomes v." The row is p's.
 abbrev pub step7 : Tag → Record → Row → ℕ → Stepped
@@ -177,24 +177,23 @@ whenIdle last own Check = begun own Check14
 unfoldable pub requestOf : Sequence → Record → Request → Requested
 requestOf last own request = cond (idle (own .place)) (whenIdle last own request) (notTaken own CallOpen)
 
-abbrev pub says : ℕ → ℕ → ℕ → Told
-says number mark value = record { number = number; mark = mark; value = value }
+abbrev pub says : ℕ → ℕ → Told
+says number value = record { number = number; value = value }
 
--- Number, mark and value.
+-- Number and value. (The mark is no part of a step's answer: the bench looks at X for it, by `markOf` in machine/specs/Run.antt.)
 -- "Outcomes: 0 request taken; 1 step taken, call goes on; 2 LL answered; 3 SC done; 4 SC not done; 5 VL yes; 6 VL no. A refused
 -- entry's outcome is its number below."
--- "Mark: 1 "current" for an LL answered by step 3, 2 "old" for one answered by step 5, else 0. Value: the LL's answer, else 0."
+-- "Value: the LL's answer, else 0."
 abbrev pub toldOf : Outcome → Told
-toldOf Taken = says 0 0 0
-toldOf GoesOn = says 1 0 0
-toldOf (Current v) = says 2 1 v
-toldOf (Old v) = says 2 2 v
-toldOf Done = says 3 0 0
-toldOf NotDone = says 4 0 0
-toldOf Yes = says 5 0 0
-toldOf No = says 6 0 0
-toldOf NoProcess = says 11 0 0
-toldOf CallOpen = says 12 0 0
-toldOf UsedUp = says 13 0 0
-toldOf NoCall = says 14 0 0
-toldOf Unsound = says 15 0 0
+toldOf Taken = says 0 0
+toldOf GoesOn = says 1 0
+toldOf (Value v) = says 2 v
+toldOf Done = says 3 0
+toldOf NotDone = says 4 0
+toldOf Yes = says 5 0
+toldOf No = says 6 0
+toldOf NoProcess = says 11 0
+toldOf CallOpen = says 12 0
+toldOf UsedUp = says 13 0
+toldOf NoCall = says 14 0
+toldOf Unsound = says 15 0

@@ -2,7 +2,7 @@
 pub use Rattle.numbers.specs.declared.Process.{Process}
 pub use Rattle.numbers.specs.declared.Sequence.{Sequence}
 pub use Rattle.step.specs.declared.Outcome.{Outcome}
-pub use Rattle.step.specs.declared.Outcome.the-variants.{Taken, GoesOn, Current, Old, Done, NotDone, Yes, No, NoProcess, CallOpen, UsedUp, NoCall, Unsound}
+pub use Rattle.step.specs.declared.Outcome.the-variants.{Taken, GoesOn, Value, Done, NotDone, Yes, No, NoProcess, CallOpen, UsedUp, NoCall, Unsound}
 pub use Rattle.step.specs.declared.Place.{Place}
 pub use Rattle.step.specs.declared.Place.the-variants.{Idle, Load1, Load2, Load3, Load5, Store7, Store8, Store9, Store10, Check14}
 pub use Rattle.step.specs.declared.Record.{Record}

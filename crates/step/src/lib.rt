@@ -44,12 +44,11 @@ pub struct Record {
     pub place: Place,
 }
 
-// What an entry came to. Current and Old are a load answered by step 3 and by step 5; the last five turn the entry away.
+// What an entry came to. Value is a load answered, by step 3 or by step 5; the last five turn the entry away.
 pub enum Outcome {
     Taken,
     GoesOn,
-    Current(u64),
-    Old(u64),
+    Value(u64),
     Done,
     NotDone,
     Yes,
@@ -94,9 +93,8 @@ pub struct Stepped {
     pub outcome: Outcome,
 }
 
-// An outcome as the log writes it.
+// An outcome as the log writes it: its number, and its value if it has one.
 pub struct Told {
     pub number: u8,
-    pub mark: u8,
     pub value: u64,
 }

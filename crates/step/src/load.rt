@@ -40,7 +40,7 @@ pub(crate) fn step_3(x: Tag, own: Record, row: Row, v: u64) -> Stepped
 {
     let k = own.kept.number;
     if old_is_near(row, k) {
-        answer(x, own, row, Outcome::Current(v))
+        answer(x, own, row, Outcome::Value(v))
     } else {
         let left = stand_at(own, Place::Load5);
         go_on(x, left, row)
@@ -51,7 +51,7 @@ pub(crate) fn step_5(x: Tag, own: Record, row: Row) -> Stepped
     ensures { λ r. ⌜ r ≡ step5 x own row ⌝ }
 {
     let v = row.old_value;
-    answer(x, own, row, Outcome::Old(v))
+    answer(x, own, row, Outcome::Value(v))
 }
 
 pub(crate) fn step_14(x: Tag, own: Record, row: Row) -> Stepped

@@ -12,8 +12,7 @@ use lib.Dec.{eqb}
 use lib.ListN.{length, getD, length-append, List·getD-append}
 use lib.Seq.{getD-append-seam}
 use borrow.Author.Tests.{eqb-true, eq-eqb, ne-eqb}
-use Rattle.word.specs.Word.{Word, Op, load, store, check, Answer, value, done, notDone, saysYes, saysNo, linked, answerOf, nextOf, Call, step, Plays}
-use Rattle.word.proofs.Play.{after}
+use Rattle.word.specs.Word.{Word, Op, load, store, check, Answer, value, done, notDone, saysYes, saysNo, linked, answerOf, nextOf, Call, step, Plays, after}
 
 module _ {A : Type 0} where
   -- the value that a call has put into its word: that of a store that was done

@@ -8,10 +8,10 @@ use mathlib.Core.Logic.{_≢_}
 use mathlib.Core.List.{List, [], _∷_, _++_, Perm, Perm·nil, Perm·cons, Perm·trans, Perm·symm, Perm·append-right, perm-append-singleton, append-nil}
 use native.Mathlib.Nat.{zero-add}
 use native.Mathlib.Omega.{arith}
-use Rattle.word.specs.Word.{answerOf, first, Call, Every, Plays, InTime, StandsFirst, InOrder}
+use Rattle.word.specs.Word.{answerOf, first, Call, Every, Plays, InTime, StandsFirst, InOrder, after}
 use Rattle.word.proofs.Lists.{every-map, every-both, every-drop, every-snoc}
 use Rattle.word.proofs.RealTime.{stands-first}
-use Rattle.word.proofs.Play.{after, plays-snoc}
+use Rattle.word.proofs.Play.{plays-snoc}
 use Rattle.word.proofs.Changes.{writes, total, valueAfter, count-after, value-after}
 use Rattle.word.proofs.From.{place, behind, From, from-total, from-later, from-snoc}
 use Rattle.word.proofs.Relink.{relink}

@@ -9,9 +9,9 @@ use native.Mathlib.Nat.{zero-add}
 use native.Mathlib.Omega.{arith}
 use lib.ListN.{length, getD, take-append-drop}
 use lib.Seq.{length-take-le, getD-take}
-use Rattle.word.specs.Word.{Word, load, value, first, Call, Every, Plays, InTime}
+use Rattle.word.specs.Word.{Word, load, value, first, Call, Every, Plays, InTime, after}
 use Rattle.word.proofs.Lists.{every-left, every-mid}
-use Rattle.word.proofs.Play.{after, after-append, plays-left, plays-right, plays-append}
+use Rattle.word.proofs.Play.{after-append, plays-left, plays-right, plays-append}
 use Rattle.word.proofs.Changes.{writes, changed, total, valueAfter, changed-mid, count-after, value-after}
 use Rattle.word.proofs.From.{place, before, behind, From, changed-before, from-quiet}
 use Rattle.word.proofs.Relink.{relink, plays-relink, after-relink}

@@ -1,15 +1,11 @@
--- The end of play, and a list of calls played in two parts.
+-- A list of calls played in two parts.
 -- Assumes nothing.
 use Prim.Native.Nat.{ℕ}
 use mathlib.Core.Path.{_≡_}
-use mathlib.Core.List.{List, [], _∷_, _++_, foldl, foldl-append}
-use Rattle.word.specs.Word.{Word, answerOf, Call, step, Plays}
+use mathlib.Core.List.{List, [], _∷_, _++_, foldl-append}
+use Rattle.word.specs.Word.{Word, answerOf, Call, step, after, Plays}
 
 module _ {A : Type 0} where
-  -- the words at the end of play
-  abbrev pub after : (ℕ → Word A) → List (Call A) → ℕ → Word A
-  after ws l = foldl step ws l
-
   pub after-append : (ws : ℕ → Word A) (a b : List (Call A)) → after ws (a ++ b) ≡ after (after ws a) b
   after-append ws a b = foldl-append step ws a b
 

@@ -7,7 +7,7 @@ use mathlib.Core.Bool.{Bool, false, cond}
 use lib.Dec.{eqb}
 use mathlib.Core.Path.{_≡_}
 use mathlib.Core.Option.{some}
-use mathlib.Core.List.{List, [], _∷_, Perm}
+use mathlib.Core.List.{List, [], _∷_, foldl, Perm}
 use lib.ListN.{getElem?}
 
 -- "for each process a link, at first none": none, or the count at which it was set. That none is no number is what keeps a
@@ -84,6 +84,10 @@ module _ {A : Type 0} where
   -- the words after one call: that call's word has moved, and no other
   abbrev pub step : (ℕ → Word A) → Call A → ℕ → Word A
   step ws c = put (c .word) (nextOf (ws (c .word)) (c .process) (c .op)) ws
+
+  -- the words at the end of play
+  abbrev pub after : (ℕ → Word A) → List (Call A) → ℕ → Word A
+  after ws l = foldl step ws l
 
   -- Demand 3, "gives every answered call its answer": played one at a time from the words ws, each call finds its answer.
   abbrev pub Plays : (ℕ → Word A) → List (Call A) → Type 0

@@ -1,4 +1,4 @@
--- Number, mark and value are the table's; the steps are counted by the place.
+-- Number and value are the table's; the steps are counted by the place, and the mark goes by X and the kept tag.
 -- Assumes nothing.
 use borrow.Author.Needs.{needs}
 use Rattle.bench.proofs.note.note_of.Statement.{statement}
@@ -10,8 +10,11 @@ tell-requires c κs = search needs
 steps-by-requires : tie.Need-steps-by-requires
 steps-by-requires c κs = search needs
 
+mark-by-requires : tie.Need-mark-by-requires
+mark-by-requires c κs = search needs
+
 returns : tie.Need-returns
-returns c = rw (c .steps-by .ensures, c .before .tell .ensures)
+returns c = rw (c .mark-by .ensures, c .before .steps-by .ensures, c .before .before .tell .ensures)
 
 pub note-of-spec : {M : Type 1} → statement M
-note-of-spec = tie.close (tie.spec tell-requires steps-by-requires returns)
+note-of-spec = tie.close (tie.spec tell-requires steps-by-requires mark-by-requires returns)

@@ -48,66 +48,66 @@ play-parts-requires c κs = search needs
 
 mul-wrote : tie.Need-mul-wrote Inv-loop μ-loop
 mul-wrote c =
-    let l : c .before .before .before .before .before .row-given .result .0 < 16 = row-there (c .before .before .before .before .before .before .before .before .before .before .before .before .loop .inv) (c .before .before .before .before .before .before .before .before .before .before .entry-at .result) _ _ (c .before .before .before .before .before .before .before .before .seat-of .ensures) (c .before .before .before .before .before .row-given .ensures) in
+    let l : c .before .before .before .before .before .before .row-given .result .0 < 16 = row-there (c .before .before .before .before .before .before .before .before .before .before .before .before .before .loop .inv) (c .before .before .before .before .before .before .before .before .before .before .before .entry-at .result) _ _ (c .before .before .before .before .before .before .before .before .before .seat-of .ensures) (c .before .before .before .before .before .before .row-given .ensures) in
     omega arith
 
 element-set-from-wrote : tie.Need-element-set-from-wrote Inv-loop μ-loop
-element-set-from-wrote c = row-there (c .before .before .before .before .before .before .before .before .before .before .before .before .loop .inv) (c .before .before .before .before .before .before .before .before .before .before .entry-at .result) _ _ (c .before .before .before .before .before .before .before .before .seat-of .ensures) (c .before .before .before .before .before .row-given .ensures)
+element-set-from-wrote c = row-there (c .before .before .before .before .before .before .before .before .before .before .before .before .before .loop .inv) (c .before .before .before .before .before .before .before .before .before .before .before .entry-at .result) _ _ (c .before .before .before .before .before .before .before .before .before .seat-of .ensures) (c .before .before .before .before .before .before .row-given .ensures)
 
 mul-left : tie.Need-mul-left Inv-loop μ-loop
 mul-left c =
-    let l : c .before .before .before .before .before .before .before .before .seat-of .result .0 < 16 = seat-there (c .before .before .before .before .before .before .before .before .before .before .before .before .loop .inv) (c .before .before .before .before .before .before .before .before .before .before .entry-at .result) _ (c .before .before .before .before .before .before .before .before .seat-of .ensures) in
+    let l : c .before .before .before .before .before .before .before .before .before .seat-of .result .0 < 16 = seat-there (c .before .before .before .before .before .before .before .before .before .before .before .before .before .loop .inv) (c .before .before .before .before .before .before .before .before .before .before .before .entry-at .result) _ (c .before .before .before .before .before .before .before .before .before .seat-of .ensures) in
     omega arith
 
 element-set-from-left : tie.Need-element-set-from-left Inv-loop μ-loop
-element-set-from-left c = seat-there (c .before .before .before .before .before .before .before .before .before .before .before .before .loop .inv) (c .before .before .before .before .before .before .before .before .before .before .entry-at .result) _ (c .before .before .before .before .before .before .before .before .seat-of .ensures)
+element-set-from-left c = seat-there (c .before .before .before .before .before .before .before .before .before .before .before .before .before .loop .inv) (c .before .before .before .before .before .before .before .before .before .before .before .entry-at .result) _ (c .before .before .before .before .before .before .before .before .before .seat-of .ensures)
 
 cast-byte : tie.Need-cast-byte Inv-loop μ-loop
-cast-byte c = omega (arith, c .before .before .before .before .before .before .before .before .before .before .before .entry-at .ensures .1)
+cast-byte c = omega (arith, c .before .before .before .before .before .before .before .before .before .before .before .before .entry-at .ensures .1)
 
 note-of-requires : tie.Need-note-of-requires Inv-loop μ-loop
 note-of-requires c κs = search needs
 
 mul-at : tie.Need-mul-at Inv-loop μ-loop
 mul-at c =
-    let inv = c .before .before .before .before .before .before .before .before .before .before .before .before .before .before .loop .inv in
-    omega (arith, inv .within, inv .room, log-length inv, c .before .before .before .before .before .before .before .before .before .before .before .before .before .loop-test .taken)
+    let inv = c .before .before .before .before .before .before .before .before .before .before .before .before .before .before .before .loop .inv in
+    omega (arith, inv .within, inv .room, log-length inv, c .before .before .before .before .before .before .before .before .before .before .before .before .before .before .loop-test .taken)
 
 sub-write-record : tie.Need-sub-write-record Inv-loop μ-loop
 sub-write-record c =
-    let inv = c .before .before .before .before .before .before .before .before .before .before .before .before .before .before .loop .inv in
-    omega (arith, inv .within, inv .room, log-length inv, c .before .before .before .before .before .before .before .before .before .before .before .before .before .loop-test .taken)
+    let inv = c .before .before .before .before .before .before .before .before .before .before .before .before .before .before .before .loop .inv in
+    omega (arith, inv .within, inv .room, log-length inv, c .before .before .before .before .before .before .before .before .before .before .before .before .before .before .loop-test .taken)
 
 part-write-record-start : tie.Need-part-write-record-start Inv-loop μ-loop
 part-write-record-start c =
-    let inv = c .before .before .before .before .before .before .before .before .before .before .before .before .before .before .loop .inv in
-    omega (arith, inv .within, inv .room, log-length inv, c .before .before .before .before .before .before .before .before .before .before .before .before .before .loop-test .taken)
+    let inv = c .before .before .before .before .before .before .before .before .before .before .before .before .before .before .before .loop .inv in
+    omega (arith, inv .within, inv .room, log-length inv, c .before .before .before .before .before .before .before .before .before .before .before .before .before .before .loop-test .taken)
 
 part-write-record-end : tie.Need-part-write-record-end Inv-loop μ-loop
 part-write-record-end c =
-    let inv = c .before .before .before .before .before .before .before .before .before .before .before .before .before .before .loop .inv in
-    omega (arith, inv .within, inv .room, log-length inv, c .before .before .before .before .before .before .before .before .before .before .before .before .before .loop-test .taken)
+    let inv = c .before .before .before .before .before .before .before .before .before .before .before .before .before .before .before .loop .inv in
+    omega (arith, inv .within, inv .room, log-length inv, c .before .before .before .before .before .before .before .before .before .before .before .before .before .before .loop-test .taken)
 
 write-record-requires : tie.Need-write-record-requires Inv-loop μ-loop
 write-record-requires c κs = search needs
 
 count-requires : tie.Need-count-requires Inv-loop μ-loop
-count-requires c κs = count-low (c .before .before .before .before .before .before .before .before .before .before .before .before .before .before .before .before .before .before .loop .inv) (c .before .before .before .before .before .before .before .before .before .before .before .before .before .before .before .before .before .loop-test .taken)
+count-requires c κs = count-low (c .before .before .before .before .before .before .before .before .before .before .before .before .before .before .before .before .before .before .before .loop .inv) (c .before .before .before .before .before .before .before .before .before .before .before .before .before .before .before .before .before .before .loop-test .taken)
 
 add-j : tie.Need-add-j Inv-loop μ-loop
 add-j c =
-    let inv = c .before .before .before .before .before .before .before .before .before .before .before .before .before .before .before .before .before .before .before .loop .inv in
-    omega (arith, inv .room, inv .few, c .before .before .before .before .before .before .before .before .before .before .before .before .before .before .before .before .before .before .loop-test .taken)
+    let inv = c .before .before .before .before .before .before .before .before .before .before .before .before .before .before .before .before .before .before .before .before .loop .inv in
+    omega (arith, inv .room, inv .few, c .before .before .before .before .before .before .before .before .before .before .before .before .before .before .before .before .before .before .before .loop-test .taken)
 
 loop-less : tie.Need-loop-less Inv-loop μ-loop
-loop-less c = omega (arith, c .before .before .before .before .before .before .before .before .before .before .before .before .before .before .before .before .before .before .loop-test .taken)
+loop-less c = omega (arith, c .before .before .before .before .before .before .before .before .before .before .before .before .before .before .before .before .before .before .before .loop-test .taken)
 
 loop-again : tie.Need-loop-again Inv-loop μ-loop
 loop-again c =
-    turn-next (c .before .before .before .before .before .before .before .before .before .before .before .before .before .before .before .before .before .before .before .loop .inv) (c .before .before .before .before .before .before .before .before .before .before .before .before .before .before .before .before .before .before .loop-test .taken)
-    _ (c .before .before .before .before .before .before .before .before .before .before .before .before .before .before .before .before .before .entry-at .ensures .0)
-    _ _ (c .before .before .before .before .before .before .before .before .before .before .before .before .before .before .before .seat-of .ensures) (c .before .before .before .before .before .before .before .before .before .before .before .before .row-given .ensures)
-    _ (c .before .before .before .before .before .before .before .before .before .before .play-parts .ensures)
+    turn-next (c .before .before .before .before .before .before .before .before .before .before .before .before .before .before .before .before .before .before .before .before .loop .inv) (c .before .before .before .before .before .before .before .before .before .before .before .before .before .before .before .before .before .before .before .loop-test .taken)
+    _ (c .before .before .before .before .before .before .before .before .before .before .before .before .before .before .before .before .before .before .entry-at .ensures .0)
+    _ _ (c .before .before .before .before .before .before .before .before .before .before .before .before .before .before .before .before .seat-of .ensures) (c .before .before .before .before .before .before .before .before .before .before .before .before .before .row-given .ensures)
+    _ (c .before .before .before .before .before .before .before .before .before .before .before .play-parts .ensures)
     _ (c .before .before .before .before .before .note-of .ensures)
     _ (c .count .ensures)
     _ (c .before .before .before .write-record .ensures)
