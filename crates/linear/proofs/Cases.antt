@@ -88,7 +88,7 @@ module _ (G : Kind → State → Outcome → Bool → Type 0) (st : State) (p : 
     pub step-14-no : recordAt st p .place ≡ Check14 → sameTag (st .x) (recordAt st p .kept) ≡ false
         → Calm Step No (rowAt st p) (at (recordAt st p) Idle)
 
-idle-is : (place : Place) → idle place ≡ true → place ≡ Idle
+pub idle-is : (place : Place) → idle place ≡ true → place ≡ Idle
 idle-is Idle e = refl
 idle-is Load1 e = absurd (false≢true e)
 idle-is Load2 e = absurd (false≢true e)

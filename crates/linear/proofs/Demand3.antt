@@ -13,7 +13,7 @@ use Rattle.machine.specs.State.{firstState}
 use Rattle.machine.specs.Frame.{Ready}
 use Rattle.machine.specs.Run.{EntryNote, played, noteOf, after, notes, changeCount, xChanged}
 use Rattle.machine.proofs.Frame.{frame}
-use Rattle.machine.proofs.RunLaws.{ready-start, ready-played}
+use Rattle.machine.proofs.RunLaws.{ready-start, ready-played, size-kept}
 use Rattle.bench.specs.Bench.{inLog}
 use Rattle.log.specs.declared.Note as log
 use Rattle.word.specs.Word.{Word, first, Call, Every}
@@ -22,8 +22,8 @@ use Rattle.word.proofs.Lists.{every-map, every-perm}
 use Rattle.word.proofs.Good.{good-first, good-count, good-value}
 use Rattle.word.proofs.Told.{NotLater, every-mem, done-on}
 use Rattle.linear.specs.Demand3.{stepOfStore, itemOf, itemsOf, callsIn, RightRecord, RightRecords, Demand3}
-use Rattle.linear.specs.Readings.{ChangesDecide, wordOn, Readings, wordFrom, SameWord}
-use Rattle.linear.proofs.Simulated.{Simulated, sim-start, sim-entry}
+use Rattle.linear.specs.TrueOfWord.{ChangesDecide, wordOn, AllTrueOfWord, wordFrom, SameWord}
+use Rattle.linear.proofs.Simulated.{Simulated, sim-start, sim-entry, same-link}
 use Rattle.linear.proofs.Known.{KnownIn, known-start, known-entry}
 
 -- What holds after the entries es with the notes ws, of which the calls c have become c′ and the word m has become m′.
@@ -32,14 +32,14 @@ pub record Ended (n v : ℕ) (st : State) (c c′ : Calls ℕ) (m m′ : Word �
   pub known : KnownIn st c′
   pub records : RightRecords n c es (map inLog ws)
   pub decide : ChangesDecide c es ws
-  pub readings : Readings c m es (map inLog ws)
+  pub ofWord : AllTrueOfWord c m es (map inLog ws)
   pub changed : doneCount (c′ .played) ≡ doneCount (c .played) + changeCount ws
 
 pub run-on : (n v : ℕ) (st : State) (c : Calls ℕ) (m : Word ℕ) (es : List Entry) → st .n ≡ n → Ready st → Simulated v st c m → KnownIn st c
     → Ended n v (after st es) c (callsFrom stepOfStore c (itemsOf es (map inLog (notes st es)))) m (wordFrom c m es (map inLog (notes st es))) es (notes st es)
 unfolding after notes callsFrom changeCount
 run-on n v st c m [] size ready sim known =
-    record { sim = sim; known = known; records = tt; decide = tt; readings = tt; changed = omega arith }
+    record { sim = sim; known = known; records = tt; decide = tt; ofWord = tt; changed = omega arith }
 run-on n v st c m (e ∷ es) size ready sim known =
     let gone = known-entry c known ready (sim .sim .inv .following) (e .process) (e .kind) in
     let next = sim-entry c m sim known ready (e .process) (e .kind) in
@@ -50,7 +50,7 @@ run-on n v st c m (e ∷ es) size ready sim known =
       known = rest .known;
       records = (subst (λ (k : ℕ). RightRecord k c e (inLog (noteOf st e))) size (gone .1), rest .records);
       decide = (gone .2, rest .decide);
-      readings = (next .1, rest .readings);
+      ofWord = (next .1, rest .ofWord);
       changed =
           add (xChanged st (played st e .state)) _ _ _
           (done-on stepOfStore c (itemOf e (inLog (noteOf st e))) ∙ ap (λ (b : Bool). cond b (suc d) d) (sym (gone .2))) (rest .changed);
@@ -102,13 +102,17 @@ module _ (n : ℕ) (s : Sequence) (v : ℕ) (range : inRange n s ≡ true) (es :
   pub changes-decide : ChangesDecide noCalls es (notes (firstState n s v) es)
   changes-decide = ended .decide
 
-  -- each record's mark and answer, beside the word as the steps leave it
-  pub readings : Readings noCalls (first v 0) es (map inLog (notes (firstState n s v) es))
-  readings = ended .readings
+  -- each record's mark and answer are true of the word as the steps leave it
+  pub true-of-word : AllTrueOfWord noCalls (first v 0) es (map inLog (notes (firstState n s v) es))
+  true-of-word = ended .ofWord
 
-  -- and this word, at the end of every run, is the one that demand 3's order leaves
-  pub same-word : SameWord v (demand-3 .oneOrder .inOrder .order) (wordFrom noCalls (first v 0) es (map inLog (notes (firstState n s v) es)))
+  -- and this word, at the end of every run, agrees with the one that demand 3's order leaves
+  pub same-word : SameWord n v (callsIn es (map inLog (notes (firstState n s v) es))) (demand-3 .oneOrder .inOrder .order) (wordFrom noCalls (first v 0) es (map inLog (notes (firstState n s v) es)))
   unfolding demand-3 one-order
   same-word =
       let sim = ended .sim .sim in
-      record { current = good-value 0 (sim .good) ∙ sim .newest; count = good-count 0 (sim .good) ∙ sim .count }
+      record {
+        current = good-value 0 (sim .good) ∙ sim .newest;
+        count = good-count 0 (sim .good) ∙ sim .count;
+        links = λ p l closed. same-link (ended .sim) (ended .known) p (omega (arith, l, size-kept (firstState n s v) es .0)) closed;
+      }

@@ -11,7 +11,7 @@ use native.Mathlib.Omega.{arith}
 use Rattle.step.specs.Steps.{sameTag, at}
 use Rattle.linear.specs.Types.{Row, Record, Place, Idle, Store9}
 use Rattle.linear.proofs.View.{View, rowAt, recordAt, Moved}
-use Rattle.word.specs.Word.{Link, Op, load, store, Answer, value, done, notDone, put, linked, answerOf, first, Call, after}
+use Rattle.word.specs.Word.{Link, Op, load, store, Answer, value, done, notDone, put, linked, answerOf, first, Call, wordsAfter}
 use Rattle.word.specs.Word as word
 use Rattle.word.proofs.Put.{split, put-same, put-other, put-id}
 use Rattle.word.proofs.Changes.{writes, wrote, total, valueAfter, total-quiet, total-snoc, value-snoc, value-new, writes-own, writes-nothing}
@@ -123,7 +123,7 @@ module _ {v : ℕ} {st : View} {now : ℕ} {asked : ℕ → ℕ} {op : ℕ → O
       (record {
         link =
             subst₂ (LinkOk (total 0 (ins 0 m x (s .order))))
-            (sym (ap (λ ws. ws 0 .link p) (good-load-after (asked p) p 0 m (s .good) may) ∙ link-own p 0 m (after (first v) (s .order))))
+            (sym (ap (λ ws. ws 0 .link p) (good-load-after (asked p) p 0 m (s .good) may) ∙ link-own p 0 m (wordsAfter (first v) (s .order))))
             (sym sn)
             (subst (λ (t : ℕ). LinkOk t (word.at m) (word.at i)) (sym (total-ins 0 m 0 x (s .order) refl)) ok);
         call = tt;
@@ -143,7 +143,7 @@ module _ {v : ℕ} {st : View} {now : ℕ} {asked : ℕ → ℕ} {op : ℕ → O
 
   -- The word's link of p passes exactly if X is p's kept tag.
   pub agree : LinkOk (total 0 (s .order)) (endLink v (s .order) p) (seen p)
-      → linked (endLink v (s .order) p) (after (first v) (s .order) 0 .count) ≡ sameTag (st .x) (recordAt st p .kept)
+      → linked (endLink v (s .order) p) (wordsAfter (first v) (s .order) 0 .count) ≡ sameTag (st .x) (recordAt st p .kept)
   agree ok =
       ap (linked (endLink v (s .order) p)) (good-count 0 (s .good))
       ∙ linked-same (total 0 (s .order)) (endLink v (s .order) p) (seen p) ok
@@ -154,7 +154,7 @@ module _ {v : ℕ} {st : View} {now : ℕ} {asked : ℕ → ℕ} {op : ℕ → O
       → Moved p st st′ (rowAt st p) o′ → Inv st′ (total 0 (s .order)) (s .h) (put p (seen p) seen)
       → Undecided p (asked p) now (s .order) (op p) o → NoLoad o → wrote o a ≡ none
       → LinkOk (total 0 (s .order)) (endLink v (s .order) p) (seen p)
-      → answerOf (after (first v) (s .order) 0) p o ≡ a
+      → answerOf (wordsAfter (first v) (s .order) 0) p o ≡ a
       → Sim v st′ (suc now) asked op (played ++ record { asked = asked p; decided = now; process = p; word = 0; op = op p; answer = a } ∷ []) seen changes current
   sim-append {st′} {o′} o a idle moved inv und noload quiet ok right =
       subst

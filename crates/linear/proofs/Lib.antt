@@ -16,7 +16,8 @@
 --     Join          how it goes on by a request, a quiet step, a load, a call at the end, a change
 --     Simulated     it holds at the start and goes on by every entry
 --     Known         own steps and replies: the second induction
---     Demand3       the theorem: demand-3; with it when X changes (changes-decide) and when a store is done (stores-linked)
+--     Demand3       the theorem: demand-3; with it when X changes (changes-decide), what each record says of the word (true-of-word), and the
+--                   word at the end (same-word)
 --     Facts         the old number is never below k - 2; at step 5 X is not the kept tag
 --     Values        V and the stored values of a file fit eight bytes
 --     OfFile        demand 3 of every list of bytes that the reader accepts and of its log: demand-3-of-files

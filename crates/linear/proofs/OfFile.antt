@@ -24,10 +24,10 @@ use Rattle.bench.specs.Bench.{inLog, notesOf, logAfter}
 use Rattle.bench.proofs.WholeRun.{range, start-is, entry-count, few-entries}
 use Rattle.word.specs.Word.{first, Every}
 use Rattle.word.specs.Calls.{noCalls}
-use Rattle.linear.specs.Demand3.{Demand3}
-use Rattle.linear.specs.Readings.{Readings, wordFrom, SameWord}
+use Rattle.linear.specs.Demand3.{callsIn, Demand3}
+use Rattle.linear.specs.TrueOfWord.{AllTrueOfWord, wordFrom, SameWord}
 use Rattle.linear.specs.OfFile.{LogOfFile, Demand3OfFile}
-use Rattle.linear.proofs.Demand3.{demand-3, readings, same-word}
+use Rattle.linear.proofs.Demand3.{demand-3, true-of-word, same-word}
 use Rattle.linear.proofs.Values.{entries-small, first-small}
 
 -- the record of an entry, by its note
@@ -87,15 +87,15 @@ module _ (f : List ℕ) (bytes : Every (λ b. b < 256) f) (n s v c : ℕ) (is : 
   -- what the notes meet, the records that are read back meet
   abbrev Met : ℕ → List log.Note → Type 0
   Met k ws =
-      (calls : Demand3 n v k (fileEntries f) ws) × Readings noCalls (first v 0) (fileEntries f) ws
-      × SameWord v (calls .oneOrder .inOrder .order) (wordFrom noCalls (first v 0) (fileEntries f) ws)
+      (calls : Demand3 n v k (fileEntries f) ws) × AllTrueOfWord noCalls (first v 0) (fileEntries f) ws
+      × SameWord n v (callsIn (fileEntries f) ws) (calls .oneOrder .inOrder .order) (wordFrom noCalls (first v 0) (fileEntries f) ws)
 
   met : Met (headIn (logAfter f lent) .changes) (notesIn (logAfter f lent))
   met =
       let start = range f n s v c is in
       subst₂ Met (sym (ap (λ (h : Head). h .changes) head-is)) (sym notes-are) (
         demand-3 n (record { 0 = s }) v start (fileEntries f),
-        readings n (record { 0 = s }) v start (fileEntries f),
+        true-of-word n (record { 0 = s }) v start (fileEntries f),
         same-word n (record { 0 = s }) v start (fileEntries f),
       )
 
@@ -105,8 +105,8 @@ module _ (f : List ℕ) (bytes : Every (λ b. b < 256) f) (n s v c : ℕ) (is : 
         head = rw (head-is, log-is, front-is);
         long = rw (log-is, length-append, log-length (changeCount ws) n (map inLog ws), records-long, as-many) (omega arith);
         calls = met .0;
-        readings = met .1;
-        word = met .2;
+        ofWord = met .1;
+        atTheEnd = met .2;
       }
 
 pub demand-3-of-files : (f : List ℕ) → Demand3OfFile f

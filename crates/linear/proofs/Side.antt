@@ -11,7 +11,7 @@ use native.Mathlib.Omega.{arith}
 use borrow.Author.Tests.{ne-eqb}
 use Rattle.linear.specs.Types.{Row, Record, Place, Idle, Load1, Load2, Load3, Load5, Store7, Store8, Store9, Store10, Check14}
 use Rattle.linear.proofs.View.{View, rowAt, recordAt}
-use Rattle.word.specs.Word.{Link, at, Op, load, store, check, linked, first, Call, after}
+use Rattle.word.specs.Word.{Link, at, Op, load, store, check, linked, first, Call, wordsAfter}
 use Rattle.word.specs.Word as word
 use Rattle.word.proofs.Play.{after-snoc}
 use Rattle.word.proofs.Changes.{writes, total, valueAfter, total-quiet, total-snoc}
@@ -68,7 +68,7 @@ OpenAt q t now order op r next sn Check14 = Undecided q t now order op check
 
 -- q's link at the end of play
 abbrev pub endLink : ℕ → List (Call ℕ) → ℕ → Link
-endLink v order q = after (first v) order 0 .link q
+endLink v order q = wordsAfter (first v) order 0 .link q
 
 -- what is kept of process q
 pub record Side (v now : ℕ) (order : List (Call ℕ)) (q t : ℕ) (op : Op ℕ) (r : Row) (next : ℕ) (place : Place) (sn : Link) : Type 0 where
@@ -102,7 +102,7 @@ way-same v now order q = record { own = λ t h. h; late = λ i t l h. h; link = 
 -- a store or a check at the end leaves all links
 pub link-snoc : (v : ℕ) (order : List (Call ℕ)) (c : Call ℕ) (q : ℕ) → NoLoad (c .op) → endLink v (order ++ c ∷ []) q ≡ endLink v order q
 link-snoc v order c q noload =
-    ap (λ ws. ws 0 .link q) (after-snoc (first v) order c) ∙ ap (λ (k : ℕ → Link). k q) (link-kept (after (first v) order) c 0 noload)
+    ap (λ ws. ws 0 .link q) (after-snoc (first v) order c) ∙ ap (λ (k : ℕ → Link). k q) (link-kept (wordsAfter (first v) order) c 0 noload)
 
 -- a call c of another process, decided now, at the end: it sets no link of q
 pub way-quiet : (v now : ℕ) (order : List (Call ℕ)) (c : Call ℕ) (q : ℕ) → c .decided ≡ now → c .process ≢ q → NoLoad (c .op) → writes 0 c ≡ none
@@ -144,7 +144,7 @@ way-load v now order played t r n q good may ne =
       link = λ sn h.
           subst (λ (k : ℕ). LinkOk k (endLink v (ins 0 n x order) q) sn) (sym (total-ins 0 n 0 x order refl))
           (subst (λ (k : Link). LinkOk (total 0 order) k sn)
-          (sym (ap (λ ws. ws 0 .link q) (good-load-after t r 0 n good may) ∙ link-others r 0 n (after (first v) order) 0 q (λ e. ne (sym e))))
+          (sym (ap (λ ws. ws 0 .link q) (good-load-after t r 0 n good may) ∙ link-others r 0 n (wordsAfter (first v) order) 0 q (λ e. ne (sym e))))
           h);
     }
   where

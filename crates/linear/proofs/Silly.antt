@@ -7,11 +7,11 @@ use mathlib.Core.Logic.{_⊎_, inl, inr}
 use mathlib.Core.List.{[], _∷_}
 use native.Mathlib.Omega.{arith}
 use Rattle.linear.specs.Types.{Entry, Kind, Ask, Step, Load, Store, Check, Note}
-use Rattle.word.specs.Word.{first, Op, load, store, check, Answer, value, done, notDone, saysYes, saysNo}
+use Rattle.word.specs.Word.{none, at, first, Op, load, store, check, Answer, value, done, notDone, saysYes, saysNo}
 use Rattle.word.specs.Calls.{noCalls, callsFrom}
 use Rattle.word.proofs.Agree.{some-first}
 use Rattle.linear.specs.Demand3.{Demand3}
-use Rattle.linear.specs.Readings.{Readings}
+use Rattle.linear.specs.TrueOfWord.{AllTrueOfWord, SameWord}
 
 -- an entry of process p; a record of it: outcome, steps, mark, value
 abbrev by : ℕ → Kind → Entry
@@ -182,28 +182,53 @@ pub unlinked-done : ¬ Demand3 2 7 1 (by 0 (Ask (Store 5)) ∷ step ∷ step ∷
 unfolding callsFrom
 unlinked-done h = some-first 7 _ _ ((λ e. omega (arith, ap answerNumber e)), tt) (h .oneOrder .inOrder)
 
--- Marks that have to fall, read beside the word: a mark on a request;
-pub mark-invented : ¬ Readings noCalls (first 7 0) (by 0 (Ask Load) ∷ []) (told 0 0 0 1 0 ∷ [])
+-- Records that are not true of the word: a mark on a request;
+pub mark-invented : ¬ AllTrueOfWord noCalls (first 7 0) (by 0 (Ask Load) ∷ []) (told 0 0 0 1 0 ∷ [])
 mark-invented h = omega (arith, h .0 .mark)
 
--- mark 2 for a load while nobody stores; and mark 1 for a value that the word does not hold;
-pub current-called-old : ¬ Readings noCalls (first 7 0) (by 0 (Ask Load) ∷ step ∷ step ∷ step ∷ []) (taken ∷ on 1 ∷ on 2 ∷ told 0 2 3 2 7 ∷ [])
-current-called-old h = omega (arith, h .1 .1 .1 .0 .mark)
+-- mark 2 for a load while nobody stores, and mark 1 for a value that the word does not hold;
+pub unchanged-marked-2 : ¬ AllTrueOfWord noCalls (first 7 0) (by 0 (Ask Load) ∷ step ∷ step ∷ step ∷ []) (taken ∷ on 1 ∷ on 2 ∷ told 0 2 3 2 7 ∷ [])
+unchanged-marked-2 h = omega (arith, h .1 .1 .1 .0 .mark)
 
-pub current-of-99 : ¬ Readings noCalls (first 7 0) (by 0 (Ask Load) ∷ step ∷ step ∷ step ∷ []) (taken ∷ on 1 ∷ on 2 ∷ told 0 2 3 1 99 ∷ [])
-current-of-99 h = omega (arith, h .1 .1 .1 .0 .says refl)
+pub mark-1-of-99 : ¬ AllTrueOfWord noCalls (first 7 0) (by 0 (Ask Load) ∷ step ∷ step ∷ step ∷ []) (taken ∷ on 1 ∷ on 2 ∷ told 0 2 3 1 99 ∷ [])
+mark-1-of-99 h = omega (arith, h .1 .1 .1 .0 .says refl)
 
 -- run F with the mark by the route: process 1 stands after step 1 of its load, process 0 loads and changes the word, and process 1's load is
--- answered by step 3; "the log says "current" and the word already stands for 20"
+-- answered by step 3; "the log says "current" and the word already stands for 20";
 pub mark-by-route :
-    ¬ Readings noCalls (first 7 0)
+    ¬ AllTrueOfWord noCalls (first 7 0)
     (by 1 (Ask Load) ∷ by 1 Step ∷ by 0 (Ask Load) ∷ step ∷ step ∷ step ∷ by 0 (Ask (Store 20)) ∷ step ∷ step ∷ by 1 Step ∷ by 1 Step ∷ [])
     (told 1 0 0 0 0 ∷ told 1 1 1 0 0 ∷ taken ∷ on 1 ∷ on 2 ∷ told 0 2 3 1 7 ∷ taken ∷ on 1 ∷ on 2 ∷ told 1 1 2 0 0 ∷ told 1 2 3 1 7 ∷ [])
 mark-by-route h = omega (arith, h .1 .1 .1 .1 .1 .1 .1 .1 .1 .1 .0 .mark)
 
--- a load that is answered by step 5 and marked 1, which no state of a run allows; and a check that says yes to a process that never loaded.
-pub step-5-current : ¬ Readings noCalls (first 7 0) (by 0 (Ask Load) ∷ step ∷ step ∷ step ∷ step ∷ []) (taken ∷ on 1 ∷ on 2 ∷ on 3 ∷ told 0 2 4 1 7 ∷ [])
-step-5-current h = omega (arith, h .1 .1 .1 .1 .0 .byStep5 refl refl)
+-- a load that is answered by step 5 while nobody stores, which no run does: mark 1 is false of step 5, and 2 of the word;
+pub step-5-marked-1 : ¬ AllTrueOfWord noCalls (first 7 0) (by 0 (Ask Load) ∷ step ∷ step ∷ step ∷ step ∷ []) (taken ∷ on 1 ∷ on 2 ∷ on 3 ∷ told 0 2 4 1 7 ∷ [])
+step-5-marked-1 h = omega (arith, h .1 .1 .1 .1 .0 .byStep5 refl refl)
 
-pub unlinked-says-yes : ¬ Readings noCalls (first 7 0) (by 0 (Ask Check) ∷ step ∷ []) (taken ∷ told 0 5 1 0 0 ∷ [])
+-- a store that changes the word and a check that says yes, and their process never loaded; a store that is not done and a check that says no,
+-- and nothing has changed since their process loaded.
+pub unlinked-changes : ¬ AllTrueOfWord noCalls (first 7 0) (by 0 (Ask (Store 5)) ∷ step ∷ step ∷ []) (taken ∷ on 1 ∷ on 2 ∷ [])
+unlinked-changes h = false≢true (h .1 .1 .0 .says refl)
+
+pub unlinked-says-yes : ¬ AllTrueOfWord noCalls (first 7 0) (by 0 (Ask Check) ∷ step ∷ []) (taken ∷ told 0 5 1 0 0 ∷ [])
 unlinked-says-yes h = false≢true (h .1 .0 .says)
+
+pub linked-not-done :
+    ¬ AllTrueOfWord noCalls (first 7 0) (by 0 (Ask Load) ∷ step ∷ step ∷ step ∷ by 0 (Ask (Store 5)) ∷ step ∷ step ∷ [])
+    (taken ∷ on 1 ∷ on 2 ∷ told 0 2 3 1 7 ∷ taken ∷ on 1 ∷ told 0 4 2 0 0 ∷ [])
+linked-not-done h = false≢true (sym (h .1 .1 .1 .1 .1 .1 .0 .says))
+
+pub linked-says-no :
+    ¬ AllTrueOfWord noCalls (first 7 0) (by 0 (Ask Load) ∷ step ∷ step ∷ step ∷ by 0 (Ask Check) ∷ step ∷ [])
+    (taken ∷ on 1 ∷ on 2 ∷ told 0 2 3 1 7 ∷ taken ∷ told 0 6 1 0 0 ∷ [])
+linked-says-no h = false≢true (sym (h .1 .1 .1 .1 .1 .0 .says))
+
+-- And words that are not the one that an order leaves: with no call at all, another value, another count, a link.
+pub another-value : ¬ SameWord 2 7 noCalls [] (record { current = 8; count = 0; link = λ p. none })
+another-value h = omega (arith, h .current)
+
+pub another-count : ¬ SameWord 2 7 noCalls [] (record { current = 7; count = 1; link = λ p. none })
+another-count h = omega (arith, h .count)
+
+pub linked-at-once : ¬ SameWord 2 7 noCalls [] (record { current = 7; count = 0; link = λ p. at 0 })
+linked-at-once h = false≢true (h .links 0 (omega arith) refl)

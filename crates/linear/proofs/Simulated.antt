@@ -2,8 +2,8 @@
 -- exactly if its process's latest step 1 saw the newest change, and a load's mark is 1 exactly if its own did.
 -- Assumes nothing.
 use Prim.Native.Nat.{ℕ, suc, _%_, _≤_, _<_}
-use mathlib.Core.Path.{_≡_, refl, sym, ap, _∙_, subst, subst₂}
-use mathlib.Core.Bool.{Bool, true, false, cond, _&&_, false≢true}
+use mathlib.Core.Path.{_≡_, refl, sym, ap, ap₂, _∙_, subst, subst₂}
+use mathlib.Core.Bool.{Bool, true, false, not, cond, _&&_, _||_, false≢true}
 use mathlib.Core.Logic.{inl, inr}
 use mathlib.Core.List.{[], _∷_, _++_, filterMap}
 use native.Mathlib.Omega.{arith}
@@ -14,20 +14,20 @@ use lib.Seq.{getD-set-same}
 use Rattle.numbers.specs.Numbers.{inRange}
 use Rattle.numbers.proofs.Range.{range-of}
 use Rattle.linear.specs.Types.{Process, Sequence, Kind, Step, Place, Idle, Load1, Load3, Load5, Store7, Store8, Check14, Outcome, GoesOn, Value, Record, State}
-use Rattle.step.specs.Steps.{sameTag, at, withSlot, ownSteps, toldOf}
+use Rattle.step.specs.Steps.{sameTag, at, withSlot, ownSteps, idle, toldOf}
 use Rattle.machine.specs.State.{rowAt, recordAt, firstState}
 use Rattle.machine.specs.Entry.{called}
 use Rattle.machine.specs.Frame.{Ready}
 use Rattle.machine.specs.Run.{turnedAway, xChanged, markBy}
 use Rattle.machine.proofs.Soundness.{sure}
-use Rattle.word.specs.Word.{Link, none, Word, Op, load, store, check, Answer, value, done, notDone, saysYes, saysNo, put, linked, first}
+use Rattle.word.specs.Word.{Link, none, Word, Op, load, store, check, Answer, value, done, notDone, saysYes, saysNo, put, linked, nextOf, first, wordsAfter}
 use Rattle.word.specs.Word as word
-use Rattle.word.specs.Calls.{Item, away, Calls, isStore, noCalls, callBy, decides, goOn}
+use Rattle.word.specs.Calls.{Item, goes, away, Calls, isStore, noCalls, callBy, decides, goOn}
 use Rattle.word.proofs.Put.{split, put-same, put-other}
 use Rattle.word.proofs.Changes.{total, valueAfter}
-use Rattle.word.proofs.Good.{good-start, late-new, Late}
+use Rattle.word.proofs.Good.{good-start, good-count, late-new, Late}
 use Rattle.linear.specs.Demand3.{stepOfStore}
-use Rattle.linear.specs.Readings.{isLoad, stored, wordOn, markAt, SaysAt, Reading}
+use Rattle.linear.specs.TrueOfWord.{isLoad, wordOn, unchanged, markAt, SaysAt, TrueOfWord}
 use Rattle.linear.proofs.Lift.{guard-low}
 use Rattle.linear.proofs.History.{At}
 use Rattle.linear.proofs.Invariant.{slotOf}
@@ -36,9 +36,9 @@ use Rattle.linear.proofs.View.{View, viewOf}
 use Rattle.linear.proofs.Moved.{tag-below}
 use Rattle.linear.proofs.Kept.{one-at, seen-at, kept-calm, kept-1, kept-2, kept-3, kept-7, kept-8, kept-9, kept-10}
 use Rattle.linear.proofs.Start.{idle-start, firstChange, inv-start}
-use Rattle.linear.proofs.Side.{LinkOk, LateFor, Side, SideAt, Sim, way-same, undecided-on, loading-on}
+use Rattle.linear.proofs.Side.{LinkOk, LateFor, endLink, Side, SideAt, Sim, way-same, undecided-on, loading-on, linked-same}
 use Rattle.linear.proofs.Join.{sim-tick, side-at, sim-quiet, sim-still, sim-request, sim-load, agree, sim-append, sim-done}
-use Rattle.linear.proofs.Cases.{Turned, Cases, by-cases}
+use Rattle.linear.proofs.Cases.{Turned, Cases, idle-is, by-cases}
 use Rattle.linear.proofs.Noted.{entryOf, noteWith, came, item-away, away-plain}
 use Rattle.linear.proofs.Known.{KnownIn, known-at, decides-at, load-stores}
 
@@ -93,7 +93,7 @@ and-no false = refl
 
 module _ {v : ℕ} {st : State} (c : Calls ℕ) (m : Word ℕ) (simulated : Simulated v st c m) (known : KnownIn st c) (ready : Ready st) (p : Process) where
   abbrev pub Next : Kind → State → Outcome → Bool → Type 0
-  Next k st′ o b = Simulated v st′ (goOn stepOfStore c (came st p k st′ o)) (wordOn c m (came st p k st′ o)) × Reading c m (entryOf p k) (noteWith st p k st′ o)
+  Next k st′ o b = Simulated v st′ (goOn stepOfStore c (came st p k st′ o)) (wordOn c m (came st p k st′ o)) × TrueOfWord c m (entryOf p k) (noteWith st p k st′ o)
 
   abbrev s : Sim v (viewOf st) (c .now) (c .asked) (c .op) (c .played) (m .link) (m .count) (m .current)
   s = simulated .sim
@@ -122,19 +122,22 @@ module _ {v : ℕ} {st : State} (c : Calls ℕ) (m : Word ℕ) (simulated : Simu
       (λ (w : ℕ). Sim v st′ now (c .asked) (c .op) (c .played ++ record { asked = c .asked (p .0); decided = c .now; process = p .0; word = w; op = o; answer = a } ∷ []) (m .link) changes current)
       (sym (simulated .one (p .0)))
 
-  -- a step after which the call goes on: whether it decides a store (d), and whether it is a load's first (f)
-  goes-on : {st′ : State} (d f : Bool) → decides stepOfStore c (p .0) ≡ d → (isLoad (c .op (p .0)) && eqb (c .steps (p .0)) 0) ≡ f
-      → Sim v (viewOf st′) (suc (c .now)) (c .asked) (c .op) (cond d (c .played ++ callBy c (p .0) done ∷ []) (c .played))
-      (cond f (put (p .0) (word.at (m .count)) (m .link)) (m .link)) (cond d (suc (m .count)) (m .count)) (cond d (stored (c .op (p .0)) (m .current)) (m .current))
-      → (d ≡ true → linked (m .link (p .0)) (m .count) ≡ true)
+  -- what a step that goes on leaves of the word: whether it is a load's first (f), and whether it decides a store (d)
+  word-left : (f d : Bool) → (isLoad (c .op (p .0)) && eqb (c .steps (p .0)) 0) ≡ f → decides stepOfStore c (p .0) ≡ d
+      → wordOn c m (goes (p .0)) ≡ cond (f || d) (nextOf m (p .0) (c .op (p .0))) m
+  word-left f d e g = ap₂ (λ (f d : Bool). cond (f || d) (nextOf m (p .0) (c .op (p .0))) m) e g
+
+  -- a step after which the call goes on, and the word that it leaves
+  goes-on : {st′ : State} (d : Bool) (m′ : Word ℕ) → decides stepOfStore c (p .0) ≡ d → wordOn c m (goes (p .0)) ≡ m′
+      → Sim v (viewOf st′) (suc (c .now)) (c .asked) (c .op) (cond d (c .played ++ callBy c (p .0) done ∷ []) (c .played)) (m′ .link) (m′ .count) (m′ .current)
+      → (d ≡ true → unchanged m (p .0) ≡ true)
       → Next Step st′ GoesOn d
-  goes-on {st′} d f e g sim right = (
+  goes-on {st′} d m′ e f sim right = (
     record {
       sim =
           subst₂
-          (λ (d f : Bool). Sim v (viewOf st′) (suc (c .now)) (c .asked) (c .op) (cond d (c .played ++ callBy c (p .0) done ∷ []) (c .played))
-          (cond f (put (p .0) (word.at (m .count)) (m .link)) (m .link)) (cond d (suc (m .count)) (m .count)) (cond d (stored (c .op (p .0)) (m .current)) (m .current)))
-          (sym e) (sym g) sim;
+          (λ (d : Bool) (m : Word ℕ). Sim v (viewOf st′) (suc (c .now)) (c .asked) (c .op) (cond d (c .played ++ callBy c (p .0) done ∷ []) (c .played)) (m .link) (m .count) (m .current))
+          (sym e) (sym f) sim;
       one = simulated .one;
     },
     record { mark = refl; byStep5 = λ two. absurd (omega (arith, two)); says = λ t. right (sym e ∙ t) },
@@ -146,21 +149,21 @@ module _ {v : ℕ} {st : State} (c : Calls ℕ) (m : Word ℕ) (simulated : Simu
         → Sim v (viewOf st′) (suc (c .now)) (c .asked) (c .op) (c .played) (m .link) (m .count) (m .current) → Next Step st′ GoesOn false
     load-goes n o k sim =
         let later : eqb (c .steps (p .0)) 0 ≡ false = ne-eqb (c .steps (p .0)) 0 (λ z. omega (arith, k, z)) in
-        goes-on false false (decides-at c (p .0) (suc (suc n)) false (load-stores o) k)
-        (ap (λ (b : Bool). isLoad (c .op (p .0)) && b) later ∙ and-no (isLoad (c .op (p .0)))) sim (λ t. absurd (false≢true t))
+        let quiet = decides-at c (p .0) (suc (suc n)) false (load-stores o) k in
+        goes-on false m quiet (word-left false false (ap (λ (b : Bool). isLoad (c .op (p .0)) && b) later ∙ and-no (isLoad (c .op (p .0)))) quiet) sim (λ t. absurd (false≢true t))
 
     store-goes : {st′ : State} (n : ℕ) → (true && eqb n stepOfStore) ≡ false → isStore (c .op (p .0)) ≡ true → suc (c .steps (p .0)) ≡ n
         → Sim v (viewOf st′) (suc (c .now)) (c .asked) (c .op) (c .played) (m .link) (m .count) (m .current) → Next Step st′ GoesOn false
     store-goes n other o k sim =
-        goes-on false false (decides-at c (p .0) n true o k ∙ other)
-        (ap (λ (b : Bool). b && eqb (c .steps (p .0)) 0) (store-no-load (c .op (p .0)) o)) sim (λ t. absurd (false≢true t))
+        let quiet = decides-at c (p .0) n true o k ∙ other in
+        goes-on false m quiet (word-left false false (ap (λ (b : Bool). b && eqb (c .steps (p .0)) 0) (store-no-load (c .op (p .0)) o)) quiet) sim (λ t. absurd (false≢true t))
 
     -- X is the kept tag exactly if what was seen is the newest change
-    tested : {b : Bool} → sameTag (st .x) (recordAt st (p .0) .kept) ≡ b → linked (m .link (p .0)) (m .count) ≡ b
+    tested : {b : Bool} → sameTag (st .x) (recordAt st (p .0) .kept) ≡ b → unchanged m (p .0) ≡ b
     tested {b} t = ap (linked (m .link (p .0))) (sym (s .count)) ∙ sym (tag-test (s .inv) (p .0) l) ∙ t
 
     -- the value after the change that was seen is the word's value, if that change is the newest
-    newest-value : (i u : ℕ) → m .link (p .0) ≡ word.at i → valueAfter 0 i v (s .order) ≡ u → linked (m .link (p .0)) (m .count) ≡ true → u ≡ m .current
+    newest-value : (i u : ℕ) → m .link (p .0) ≡ word.at i → valueAfter 0 i v (s .order) ≡ u → unchanged m (p .0) ≡ true → u ≡ m .current
     newest-value i u sn val t =
         let newest : i ≡ m .count = eqb-true i (m .count) (sym (ap (λ (k : Link). linked k (m .count)) sn) ∙ t) in
         sym val ∙ ap (λ (j : ℕ). valueAfter 0 j v (s .order)) (newest ∙ sym (s .count)) ∙ s .newest
@@ -168,8 +171,8 @@ module _ {v : ℕ} {st : State} (c : Calls ℕ) (m : Word ℕ) (simulated : Simu
     -- An answered load: the step has left X and the kept tag as they were, so its mark is the test's answer.
     load-reads : (st′ : State) (u : ℕ) → st′ .x ≡ st .x → recordAt st′ (p .0) .kept ≡ recordAt st (p .0) .kept
         → (ownSteps (recordAt st (p .0) .place) ≡ 4 → sameTag (st .x) (recordAt st (p .0) .kept) ≡ false)
-        → (linked (m .link (p .0)) (m .count) ≡ true → u ≡ m .current)
-        → Reading c m (entryOf p Step) (noteWith st p Step st′ (Value u))
+        → (unchanged m (p .0) ≡ true → u ≡ m .current)
+        → TrueOfWord c m (entryOf p Step) (noteWith st p Step st′ (Value u))
     load-reads st′ u x kept behind says =
         let same : markBy 2 (st′ .x) (recordAt st′ (p .0) .kept) ≡ markBy 2 (st .x) (recordAt st (p .0) .kept) = cc (x, kept) in
         record {
@@ -213,8 +216,9 @@ module _ {v : ℕ} {st : State} (c : Calls ℕ) (m : Word ℕ) (simulated : Simu
           );
           step-1 = λ e st′ x mv.
               let o = known-at known (p .0) l e .0 in
-              goes-on false true (decides-at c (p .0) 1 false (load-stores (o .asks)) (o .counted))
-              (ap (λ (j : Op ℕ). isLoad j && eqb (c .steps (p .0)) 0) (o .asks) ∙ ap (λ (j : ℕ). eqb j 0) (none-yet (o .counted)))
+              let quiet = decides-at c (p .0) 1 false (load-stores (o .asks)) (o .counted) in
+              let begins = ap (λ (j : Op ℕ). isLoad j && eqb (c .steps (p .0)) 0) (o .asks) ∙ ap (λ (j : ℕ). eqb j 0) (none-yet (o .counted)) in
+              goes-on false (nextOf m (p .0) load) quiet (word-left true false begins quiet ∙ ap (nextOf m (p .0)) (o .asks))
               (subst (λ (t : ℕ). Sim v (viewOf st′) (suc (c .now)) (c .asked) (c .op) (c .played) (put (p .0) (word.at t) (m .link)) (m .count) (m .current)) (s .count)
               (sim-quiet s (p .0) l (word.at (total 0 (s .order))) mv (kept-1 (viewOf st) (p .0) (s .inv) l e mv x)
               (record { link = tt; call = (undecided-on (way-same v (c .now) (s .order) (p .0)) (side-at s (p .0) l e .call), first-seen) })))
@@ -271,11 +275,13 @@ module _ {v : ℕ} {st : State} (c : Calls ℕ) (m : Word ℕ) (simulated : Simu
               }));
           step-8-done = λ e same st′ x mv.
               let o = known-at known (p .0) l e .0 in
-              goes-on true false (decides-at c (p .0) 2 true (o .asks) (o .counted)) (ap (λ (b : Bool). b && eqb (c .steps (p .0)) 0) (store-no-load (c .op (p .0)) (o .asks)))
-              (subst (λ (u : ℕ). Sim v (viewOf st′) (suc (c .now)) (c .asked) (c .op) (c .played ++ callBy c (p .0) done ∷ []) (m .link) (suc (m .count)) u)
-              (sym (ap (λ (j : Op ℕ). stored j (m .current)) (side-at s (p .0) l e .call .kind)))
+              let decided = decides-at c (p .0) 2 true (o .asks) (o .counted) in
+              let no-load = ap (λ (b : Bool). b && eqb (c .steps (p .0)) 0) (store-no-load (c .op (p .0)) (o .asks)) in
+              let after-it = stored (slotOf (rowAt st (p .0)) (recordAt st (p .0) .next .0)) in
+              goes-on true after-it decided
+              (word-left false true no-load decided ∙ ap (nextOf m (p .0)) (side-at s (p .0) l e .call .kind) ∙ ap (λ (b : Bool). cond b after-it m) (tested same))
               (on-own-word (c .op (p .0)) done
-              (sim-done s (p .0) l refl mv (kept-8 (viewOf st) (p .0) (s .inv) l e x mv) (side-at s (p .0) l e .call) (side-at s (p .0) l e .link) same)))
+              (sim-done s (p .0) l refl mv (kept-8 (viewOf st) (p .0) (s .inv) l e x mv) (side-at s (p .0) l e .call) (side-at s (p .0) l e .link) same))
               (λ t. tested same);
           step-8-not-done = λ e other st′ x mv. (
             record {
@@ -323,6 +329,10 @@ module _ {v : ℕ} {st : State} (c : Calls ℕ) (m : Word ℕ) (simulated : Simu
           );
         }
       where
+        -- the word after a store of u that is done
+        stored : ℕ → Word ℕ
+        stored u = record { current = u; count = suc (m .count); link = m .link }
+
         -- from the newest change on nothing stands yet
         first-seen : LateFor (c .asked (p .0)) (s .order) (word.at (total 0 (s .order)))
         first-seen i e =
@@ -341,3 +351,19 @@ module _ {v : ℕ} {st : State} (c : Calls ℕ) (m : Word ℕ) (simulated : Simu
   -- Every entry carries the relation on.
   pub sim-entry : (k : Kind) → Next k (called st p k .state) (called st p k .outcome) (xChanged st (called st p k .state))
   sim-entry k = by-cases Next st p ready (s .inv .following) away-next cases k
+
+-- A process with no call open is idle, so its link in the word and the change that it has seen are both at the newest change, or both behind it.
+pub same-link : {v : ℕ} {st : State} {c : Calls ℕ} {m : Word ℕ} (simulated : Simulated v st c m) → KnownIn st c → (q : ℕ) → q < st .n → c .opened q ≡ false
+    → unchanged (wordsAfter (first v) (simulated .sim .order) 0) q ≡ unchanged m q
+same-link {v} {st} {c} {m} simulated known q l closed =
+    ap (linked (endLink v (s .order) q)) (good-count 0 (s .good)) ∙ linked-same (total 0 (s .order)) (endLink v (s .order) q) (m .link q) both ∙ ap (linked (m .link q)) (s .count)
+  where
+    s : Sim v (viewOf st) (c .now) (c .asked) (c .op) (c .played) (m .link) (m .count) (m .current)
+    s = simulated .sim
+
+    not-open : (b : Bool) → not b ≡ false → b ≡ true
+    not-open true e = refl
+    not-open false e = absurd (false≢true (sym e))
+
+    both : LinkOk (total 0 (s .order)) (endLink v (s .order) q) (m .link q)
+    both = side-at s q l (idle-is (recordAt st q .place) (not-open (idle (recordAt st q .place)) (sym (known .opens q l) ∙ closed))) .link

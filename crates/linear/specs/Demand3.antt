@@ -44,7 +44,7 @@ abbrev pub callsIn : List Entry → List Note → Calls ℕ
 callsIn es ws = callsFrom stepOfStore noCalls (itemsOf es ws)
 
 -- What a record must say beside its outcome, counted over the entries: own steps and value. (The mark is read beside the word, by
--- `Readings` in Readings.antt.)
+-- `TrueOfWord` in TrueOfWord.antt.)
 pub record Counted : Type 0 where
   pub steps : ℕ
   pub value : ℕ

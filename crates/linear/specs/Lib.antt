@@ -1,4 +1,4 @@
 pub mod Types
-pub mod Readings
 pub mod Demand3
+pub mod TrueOfWord
 pub mod OfFile

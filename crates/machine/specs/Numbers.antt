@@ -28,7 +28,7 @@ ofRequest st p Load = noSteps 0
 ofRequest st p (Store v) = cond (leb (recordAt st (p .0) .next .0) (st .s .0)) (noSteps 0) (noSteps 13)
 ofRequest st p Check = noSteps 0
 
--- "LL answered", after so many steps: with the mark, for steps 3 and 5 leave X and the kept tag as they are, and the value
+-- "LL answered" after so many steps, with mark and value. Steps 3 and 5 leave X and the kept tag, so both may be read before the entry.
 abbrev pub ofLoad : State → Record → ℕ → ℕ → Numbers
 ofLoad st own steps v = numbers 2 steps (markBy 2 (st .x) (own .kept)) v
 

@@ -37,9 +37,10 @@ abbrev pub xChanged : State → State → Bool
 xChanged before after = not (sameTag (before .x) (after .x))
 
 -- Document 02, P3: "From now on the bench, not the step, looks at X: mark 1 if it equals the kept tag straight after the load's last step,
--- else 2." x and kept are X and its process's kept tag after the entry, and 2 is the outcome "LL answered"; for every other the mark is 0.
+-- else 2." x and kept are X and the kept tag of the entry's process, both after the entry. Outcome number 2 is "LL answered"; with every
+-- other the mark is 0.
 abbrev pub markBy : ℕ → Tag → Tag → ℕ
-markBy outcome x kept = cond (eqb outcome 2) (cond (sameTag x kept) 1 2) 0
+markBy number x kept = cond (eqb number 2) (cond (sameTag x kept) 1 2) 0
 
 abbrev pub noteOf : State → Entry → EntryNote
 noteOf st e =

@@ -46,7 +46,7 @@ saysNoVL p = line p Step 6 1 0 0 false
 abbrev pub entryRefused : ℕ → Kind → ℕ → Line
 entryRefused p kind number = line p kind number 0 0 0 false
 
--- whole calls: a load of three steps, a store that is done, its first two steps, a store that is not done
+-- whole calls: a load of three steps with mark 1, a store that is done, its first two steps, a store that is not done
 abbrev pub LL : ℕ → ℕ → List Line
 LL p v = requestTaken p Load ∷ stepTaken p 1 ∷ stepTaken p 2 ∷ answersLL p 3 1 v ∷ []
 

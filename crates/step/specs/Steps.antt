@@ -180,7 +180,7 @@ requestOf last own request = cond (idle (own .place)) (whenIdle last own request
 abbrev pub says : ℕ → ℕ → Told
 says number value = record { number = number; value = value }
 
--- Number and value. (The mark is no part of a step's answer: the bench looks at X for it, by `markOf` in machine/specs/Run.antt.)
+-- Number and value. (The mark is no part of a step's answer: the bench looks at X for it, by `markBy` in machine/specs/Run.antt.)
 -- "Outcomes: 0 request taken; 1 step taken, call goes on; 2 LL answered; 3 SC done; 4 SC not done; 5 VL yes; 6 VL no. A refused
 -- entry's outcome is its number below."
 -- "Value: the LL's answer, else 0."

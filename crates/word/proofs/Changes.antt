@@ -12,7 +12,7 @@ use lib.Dec.{eqb}
 use lib.ListN.{length, getD, length-append, List·getD-append}
 use lib.Seq.{getD-append-seam}
 use borrow.Author.Tests.{eqb-true, eq-eqb, ne-eqb}
-use Rattle.word.specs.Word.{Word, Op, load, store, check, Answer, value, done, notDone, saysYes, saysNo, linked, answerOf, nextOf, Call, step, Plays, after}
+use Rattle.word.specs.Word.{Word, Op, load, store, check, Answer, value, done, notDone, saysYes, saysNo, linked, answerOf, nextOf, Call, step, wordsAfter, Plays}
 
 module _ {A : Type 0} where
   -- the value that a call has put into its word: that of a store that was done
@@ -82,26 +82,26 @@ module _ {A : Type 0} where
       go false q = (refl, refl)
 
   -- At the end of play the count has grown by the number of changes, and the value is the one after all of them.
-  pub count-after : (w : ℕ) (ws : ℕ → Word A) (l : List (Call A)) → Plays ws l → after ws l w .count ≡ ws w .count + total w l
+  pub count-after : (w : ℕ) (ws : ℕ → Word A) (l : List (Call A)) → Plays ws l → wordsAfter ws l w .count ≡ ws w .count + total w l
   unfolding filterMap
   count-after w ws [] h = sym (add-zero (ws w .count))
   count-after w ws (c ∷ l) h = go (writes w c) refl (step-moves w ws c (h .0)) (count-after w (step ws c) l (h .1))
     where
-      go : (o : Option A) → writes w c ≡ o → Moved o (ws w) (step ws c w) → after (step ws c) l w .count ≡ step ws c w .count + total w l
-          → after (step ws c) l w .count ≡ ws w .count + total w (c ∷ l)
+      go : (o : Option A) → writes w c ≡ o → Moved o (ws w) (step ws c w) → wordsAfter (step ws c) l w .count ≡ step ws c w .count + total w l
+          → wordsAfter (step ws c) l w .count ≡ ws w .count + total w (c ∷ l)
       go none e m ih = rw (filterMap-cons-none (writes w) c l e) (omega arith)
       go (some v) e m ih = rw (filterMap-cons-some (writes w) c l e) (omega arith)
 
   -- (Any default d serves, for the place is in the list.)
   pub value-after : (w : ℕ) (ws : ℕ → Word A) (l : List (Call A)) (d : A) → Plays ws l
-      → after ws l w .current ≡ getD (ws w .current ∷ changed w l) (total w l) d
+      → wordsAfter ws l w .current ≡ getD (ws w .current ∷ changed w l) (total w l) d
   unfolding filterMap
   value-after w ws [] d h = refl
   value-after w ws (c ∷ l) d h = go (writes w c) refl (step-moves w ws c (h .0)) (value-after w (step ws c) l d (h .1))
     where
       go : (o : Option A) → writes w c ≡ o → Moved o (ws w) (step ws c w)
-          → after (step ws c) l w .current ≡ getD (step ws c w .current ∷ changed w l) (total w l) d
-          → after (step ws c) l w .current ≡ getD (ws w .current ∷ changed w (c ∷ l)) (total w (c ∷ l)) d
+          → wordsAfter (step ws c) l w .current ≡ getD (step ws c w .current ∷ changed w l) (total w l) d
+          → wordsAfter (step ws c) l w .current ≡ getD (ws w .current ∷ changed w (c ∷ l)) (total w (c ∷ l)) d
       go none e m ih = rw (filterMap-cons-none (writes w) c l e, ← m .1) ih
       go (some v) e m ih = rw (filterMap-cons-some (writes w) c l e, ← m .1) ih
 

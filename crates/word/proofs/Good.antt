@@ -8,7 +8,7 @@ use mathlib.Core.Logic.{_≢_}
 use mathlib.Core.List.{List, [], _∷_, _++_, Perm, Perm·nil, Perm·cons, Perm·trans, Perm·symm, Perm·append-right, perm-append-singleton, append-nil}
 use native.Mathlib.Nat.{zero-add}
 use native.Mathlib.Omega.{arith}
-use Rattle.word.specs.Word.{answerOf, first, Call, Every, Plays, InTime, StandsFirst, InOrder, after}
+use Rattle.word.specs.Word.{answerOf, first, Call, Every, wordsAfter, Plays, InTime, StandsFirst, InOrder}
 use Rattle.word.proofs.Lists.{every-map, every-both, every-drop, every-snoc}
 use Rattle.word.proofs.RealTime.{stands-first}
 use Rattle.word.proofs.Play.{plays-snoc}
@@ -58,7 +58,7 @@ module _ {A : Type 0} where
 
   -- 2. A call decided now, at the end, if its answer is the one that the word gives there. All before it were requested before now.
   pub good-append : {a : A} {now : ℕ} {order played : List (Call A)} (c : Call A) → Good a now order played → c .asked < now → c .decided ≡ now
-      → answerOf (after (first a) order (c .word)) (c .process) (c .op) ≡ c .answer → Good a (suc now) (order ++ c ∷ []) (played ++ c ∷ [])
+      → answerOf (wordsAfter (first a) order (c .word)) (c .process) (c .op) ≡ c .answer → Good a (suc now) (order ++ c ∷ []) (played ++ c ∷ [])
   good-append {a} {now} {order} {played} c g asked decided right = record {
     plays = plays-snoc (first a) order c (g .plays) right;
     past = every-snoc (Past (suc now)) order c (later now order (g .past)) (omega arith);
@@ -90,7 +90,7 @@ module _ {A : Type 0} where
 
   -- and the end of play is as it was, but for r's link to w, which is n
   pub good-load-after : {a : A} {now : ℕ} {order played : List (Call A)} (t r w n : ℕ) → Good a now order played → MayLoad now t r w n order
-      → after (first a) (ins w n (loadCall t now r w (valueAfter w n a order)) order) ≡ relink r w n (after (first a) order)
+      → wordsAfter (first a) (ins w n (loadCall t now r w (valueAfter w n a order)) order) ≡ relink r w n (wordsAfter (first a) order)
   good-load-after {a} {now} {order} t r w n g m = ins-after w n a order (g .plays) (m .fits) t now r (others now t r w n order m)
 
   -- At the end: the calls can be put in one order,
@@ -130,9 +130,9 @@ module _ {A : Type 0} where
 
   -- At the end of play of a Good order, count and value of w are its total and the value after all its changes.
   pub good-count : {a : A} {now : ℕ} {order played : List (Call A)} (w : ℕ) → Good a now order played
-      → after (first a) order w .count ≡ total w order
+      → wordsAfter (first a) order w .count ≡ total w order
   good-count {a} {order = order} w g = count-after w (first a) order (g .plays) ∙ zero-add (total w order)
 
   pub good-value : {a : A} {now : ℕ} {order played : List (Call A)} (w : ℕ) → Good a now order played
-      → after (first a) order w .current ≡ valueAfter w (total w order) a order
+      → wordsAfter (first a) order w .current ≡ valueAfter w (total w order) a order
   good-value {a} {order = order} w g = value-after w (first a) order a (g .plays)

@@ -9,7 +9,7 @@ use native.Mathlib.Nat.{zero-add}
 use native.Mathlib.Omega.{arith}
 use lib.ListN.{length, getD, take-append-drop}
 use lib.Seq.{length-take-le, getD-take}
-use Rattle.word.specs.Word.{Word, load, value, first, Call, Every, Plays, InTime, after}
+use Rattle.word.specs.Word.{Word, load, value, first, Call, Every, wordsAfter, Plays, InTime}
 use Rattle.word.proofs.Lists.{every-left, every-mid}
 use Rattle.word.proofs.Play.{after-append, plays-left, plays-right, plays-append}
 use Rattle.word.proofs.Changes.{writes, changed, total, valueAfter, changed-mid, count-after, value-after}
@@ -68,15 +68,15 @@ module _ {A : Type 0} where
   -- Play. Up to x nothing is new; x finds the value that stands there and sets r's link to the count there; and behind it there is
   -- no call of r, so nobody notices that link.
   module _ (t d r w : ℕ) (ws : ℕ → Word A) (a b : List (Call A)) (others : Every (λ c. c .process ≢ r) b) where
-    load-mid : (v : A) → after ws a w .current ≡ v → Plays ws (a ++ b) → Plays ws (a ++ loadCall t d r w v ∷ b)
+    load-mid : (v : A) → wordsAfter ws a w .current ≡ v → Plays ws (a ++ b) → Plays ws (a ++ loadCall t d r w v ∷ b)
     load-mid v e h =
         plays-append ws a (loadCall t d r w v ∷ b) (plays-left ws a b h)
-        (ap value e, plays-relink r w (after ws a w .count) (after ws a) b others (plays-right ws a b h))
+        (ap value e, plays-relink r w (wordsAfter ws a w .count) (wordsAfter ws a) b others (plays-right ws a b h))
 
-    after-mid : (v : A) → after ws (a ++ loadCall t d r w v ∷ b) ≡ relink r w (after ws a w .count) (after ws (a ++ b))
+    after-mid : (v : A) → wordsAfter ws (a ++ loadCall t d r w v ∷ b) ≡ relink r w (wordsAfter ws a w .count) (wordsAfter ws (a ++ b))
     after-mid v =
-        after-append ws a (loadCall t d r w v ∷ b) ∙ after-relink r w (after ws a w .count) (after ws a) b others
-        ∙ ap (relink r w (after ws a w .count)) (sym (after-append ws a b))
+        after-append ws a (loadCall t d r w v ∷ b) ∙ after-relink r w (wordsAfter ws a w .count) (wordsAfter ws a) b others
+        ∙ ap (relink r w (wordsAfter ws a w .count)) (sym (after-append ws a b))
 
   -- From the start, the count at x's place is n, and the value is the one after n changes.
   module _ (w n : ℕ) (a : A) (l : List (Call A)) (h : Plays (first a) l) (fits : n ≤ total w l) where
@@ -86,10 +86,10 @@ module _ {A : Type 0} where
     total-before : total w (before w n l) ≡ n
     total-before = ap length (changed-before w n l) ∙ length-take-le n (changed w l) fits
 
-    count-before : after (first a) (before w n l) w .count ≡ n
+    count-before : wordsAfter (first a) (before w n l) w .count ≡ n
     count-before = count-after w (first a) (before w n l) plays-before ∙ zero-add (total w (before w n l)) ∙ total-before
 
-    value-before : after (first a) (before w n l) w .current ≡ valueAfter w n a l
+    value-before : wordsAfter (first a) (before w n l) w .current ≡ valueAfter w n a l
     value-before =
         value-after w (first a) (before w n l) a plays-before
         ∙ ap₂ (λ (vs : List A) (m : ℕ). getD (a ∷ vs) m a) (changed-before w n l) total-before
@@ -102,7 +102,7 @@ module _ {A : Type 0} where
           load-mid t d r w (first a) (before w n l) (behind w n l) others (valueAfter w n a l) value-before
           (subst (Plays (first a)) (sym (cut w n l)) h)
 
-      pub ins-after : after (first a) (ins w n (loadCall t d r w (valueAfter w n a l)) l) ≡ relink r w n (after (first a) l)
+      pub ins-after : wordsAfter (first a) (ins w n (loadCall t d r w (valueAfter w n a l)) l) ≡ relink r w n (wordsAfter (first a) l)
       ins-after =
           after-mid t d r w (first a) (before w n l) (behind w n l) others (valueAfter w n a l)
-          ∙ ap₂ (λ (m : ℕ) (k : List (Call A)). relink r w m (after (first a) k)) count-before (cut w n l)
+          ∙ ap₂ (λ (m : ℕ) (k : List (Call A)). relink r w m (wordsAfter (first a) k)) count-before (cut w n l)

@@ -6,7 +6,7 @@ use mathlib.Core.Bool.{Bool, true, false, cond}
 use mathlib.Core.Logic.{_≢_}
 use mathlib.Core.List.{List, [], _∷_}
 use borrow.Author.Tests.{ne-eqb}
-use Rattle.word.specs.Word.{Word, Link, at, Op, load, store, check, put, linked, answerOf, nextOf, Call, Every, step, Plays, after}
+use Rattle.word.specs.Word.{Word, Link, at, Op, load, store, check, put, linked, answerOf, nextOf, Call, Every, step, wordsAfter, Plays}
 use Rattle.word.proofs.Put.{put-comm, put-same, put-other, change, change-comm, split}
 
 module _ {A : Type 0} where
@@ -56,10 +56,10 @@ module _ {A : Type 0} where
   )
 
   pub after-relink : (r w n : ℕ) (ws : ℕ → Word A) (l : List (Call A)) → Every (λ c. c .process ≢ r) l
-      → after (relink r w n ws) l ≡ relink r w n (after ws l)
+      → wordsAfter (relink r w n ws) l ≡ relink r w n (wordsAfter ws l)
   after-relink r w n ws [] others = refl
   after-relink r w n ws (c ∷ l) others =
-      ap (λ s. after s l) (step-relink r w n ws c (others .0)) ∙ after-relink r w n (step ws c) l (others .1)
+      ap (λ s. wordsAfter s l) (step-relink r w n ws c (others .0)) ∙ after-relink r w n (step ws c) l (others .1)
 
   -- Links, as the joining with a machine reads them: r's link to w is n, and every other link is as it was;
   pub link-own : (r w n : ℕ) (ws : ℕ → Word A) → relink r w n ws w .link r ≡ at n

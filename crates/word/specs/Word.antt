@@ -86,8 +86,8 @@ module _ {A : Type 0} where
   step ws c = put (c .word) (nextOf (ws (c .word)) (c .process) (c .op)) ws
 
   -- the words at the end of play
-  abbrev pub after : (ℕ → Word A) → List (Call A) → ℕ → Word A
-  after ws l = foldl step ws l
+  abbrev pub wordsAfter : (ℕ → Word A) → List (Call A) → ℕ → Word A
+  wordsAfter ws l = foldl step ws l
 
   -- Demand 3, "gives every answered call its answer": played one at a time from the words ws, each call finds its answer.
   abbrev pub Plays : (ℕ → Word A) → List (Call A) → Type 0
