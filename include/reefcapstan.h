@@ -23,6 +23,12 @@ extern "C" {
 /* The log's length in bytes for a number of entries: a head of 12, and 12 for each entry. */
 #define REEFCAPSTAN_LOG_LENGTH(entries) (12u + 12u * (size_t)(entries))
 
+/* The mark of an answered load, byte 3 of its record: whether its value was still the word's when it was answered. With 1 no store had
+ * changed the word since the load's step 1; with 2 one had. Every other record has mark 0.
+ */
+#define REEFCAPSTAN_MARK_CURRENT 1
+#define REEFCAPSTAN_MARK_NOT_CURRENT 2
+
 /* Plays the schedule file `file` of `file_len` bytes.
  *
  * Both buffers stay the caller's. The file is only read. Of the log, an accepted file's run writes the first

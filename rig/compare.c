@@ -1,6 +1,6 @@
 #include "compare.h"
 
-#include "marks.h"
+#include "word.h"
 
 static struct arena file_arena;
 static struct arena own_arena;
@@ -31,18 +31,22 @@ static bool untouched_if_refused(uint32_t told, const struct lent *log, const ui
     return told == 0 || memcmp(log->bytes, before, log->length) == 0 || complain("a refused file changed the log");
 }
 
-/* The marks of an accepted file's log; said apart for the same reason. */
-static bool marks_hold(uint32_t told, const uint8_t *file, size_t file_len, const struct lent *log)
+/* What an accepted file's log tells of the word; said apart for the same reason. */
+static bool word_holds(uint32_t told, const uint8_t *file, size_t file_len, const struct lent *log)
 {
-    char what[160];
+    char what[200];
     if (told != 0) {
         return true;
     }
-    struct mark_fault fault = find_mark_fault(file, file_len, log->bytes);
+    struct word_fault fault = find_word_fault(file, file_len, log->bytes);
     if (fault.what == NULL) {
         return true;
     }
-    snprintf(what, sizeof what, "the reference's log, entry %u: %s", fault.place, fault.what);
+    if (fault.place == AT_HEAD) {
+        snprintf(what, sizeof what, "the reference's log, head: %s", fault.what);
+    } else {
+        snprintf(what, sizeof what, "the reference's log, entry %u: %s", fault.place, fault.what);
+    }
     return complain(what);
 }
 
@@ -78,7 +82,7 @@ struct compared compare(const uint8_t *file, size_t file_len, size_t log_len, en
     same = same_told(own_told, proved_told) && same;
     same = same_bytes("logs", &own, &proved) && same;
     same = untouched_if_refused(own_told, &own, before) && same;
-    same = marks_hold(own_told, file, file_len, &own) && same;
+    same = word_holds(own_told, file, file_len, &own) && same;
     if (!same) {
         keep_file(file, file_len, index);
     }

@@ -6,7 +6,8 @@
 
 struct open_call {
     bool open;
-    bool changed; /* a store that has passed step 8 with success */
+    bool changed;   /* a store that has passed step 8 with success */
+    uint32_t steps; /* own steps so far that went on */
     struct call call;
 };
 
@@ -19,9 +20,10 @@ static void ask(struct open_call *open, uint32_t place, const uint8_t *entry)
     open->call.value = get64(entry + 4);
 }
 
-static void go_on(struct open_call *open, uint32_t place, const uint8_t *record)
+static void go_on(struct open_call *open, uint32_t place)
 {
-    if (changes_x(open->call.kind, record)) {
+    open->steps++;
+    if (is_step_8(open->call.kind, open->steps)) {
         open->changed = true;
         open->call.decided = place;
         open->call.answer = STORE_DONE;
@@ -57,7 +59,7 @@ static bool follow(struct history *h, struct open_call *open, uint32_t place, co
     if (record[0] == REQUEST_TAKEN) {
         ask(own, place, entry);
     } else if (record[0] == STEP_TAKEN) {
-        go_on(own, place, record);
+        go_on(own, place);
     } else if (record[0] <= CHECK_NO) {
         answer(own, place, record);
         return add_call(h, &own->call);

@@ -33,14 +33,14 @@ static bool check_order(uint64_t index, const struct compared *c)
         return false;
     }
     bool unanswered = false;
-    bool old = false;
+    bool step_5 = false;
     for (size_t i = 0; i < h.calls; i++) {
         unanswered |= h.call[i].answered == NEVER;
-        old |= by_step_5(record_at(c->log, h.call[i].decided));
+        step_5 |= by_step_5(record_at(c->log, h.call[i].decided));
     }
     tally.row[ROW_HISTORIES]++;
     tally.row[ROW_HISTORY_CALLS] += h.calls;
-    tally.row[ROW_HISTORIES_OLD] += old;
+    tally.row[ROW_HISTORIES_STEP_5] += step_5;
     tally.row[ROW_HISTORIES_UNANSWERED] += unanswered;
     return true;
 }

@@ -321,7 +321,7 @@ static void fill_short(struct maker *k)
 }
 
 /* A writer of a few calls beside slow loads: nine calls are enough for step 5. */
-static void fill_short_old(struct maker *k)
+static void fill_short_step_5(struct maker *k)
 {
     uint8_t writer = some_process(k);
     uint32_t asked = 0;
@@ -354,7 +354,7 @@ static void fill_style(struct maker *k, enum style style)
     case STYLE_REFUSED: fill_refused(k); break;
     case STYLE_SEQUENTIAL: fill_sequential(k); break;
     case STYLE_SHORT: fill_short(k); break;
-    case STYLE_SHORT_OLD: fill_short_old(k); break;
+    case STYLE_SHORT_STEP_5: fill_short_step_5(k); break;
     case STYLE_LARGEST: fill_style(k, (enum style)below(k->r, STYLE_SHORT)); break;
     case STYLE_NO_ENTRIES:
     case STYLES: break;
@@ -378,10 +378,10 @@ static void some_setting(struct prng *r, struct schedule *s, enum style style)
     if (style == STYLE_USED_UP) {
         s->last = chance(r, 1, 2) ? between(r, 2, 3) : between(r, 2, 12);
     }
-    if ((style == STYLE_SHORT || style == STYLE_SHORT_OLD) && chance(r, 4, 5)) {
+    if ((style == STYLE_SHORT || style == STYLE_SHORT_STEP_5) && chance(r, 4, 5)) {
         s->processes = (uint8_t)between(r, 2, 4);
     }
-    if ((style == STYLE_SLOW_LOADERS || style == STYLE_SHORT_OLD) && chance(r, 4, 5)) {
+    if ((style == STYLE_SLOW_LOADERS || style == STYLE_SHORT_STEP_5) && chance(r, 4, 5)) {
         s->last = UINT32_MAX;
     }
 }
@@ -391,7 +391,7 @@ static size_t some_limit(struct prng *r, enum style style)
     if (style == STYLE_LARGEST) {
         return MOST_ENTRIES;
     }
-    if (style == STYLE_SHORT || style == STYLE_SHORT_OLD) {
+    if (style == STYLE_SHORT || style == STYLE_SHORT_STEP_5) {
         return 60;
     }
     switch (below(r, 16)) {
@@ -863,7 +863,7 @@ const char *style_name(enum style style)
 {
     static const char *const names[STYLES] = {
         "any entries", "only taken entries", "bursts", "slow loaders, fast writer", "fights", "numbers used up",
-        "every second entry refused", "whole calls in turn", "short, overlapping", "short, old loads",
+        "every second entry refused", "whole calls in turn", "short, overlapping", "short, loads by step 5",
         "no entries", "largest"};
     return style < STYLES ? names[style] : "?";
 }

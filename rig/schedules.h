@@ -32,7 +32,7 @@ enum style {
     STYLE_REFUSED,      /* every second entry is refused */
     STYLE_SEQUENTIAL,   /* whole calls, one after another */
     STYLE_SHORT,        /* a few overlapping calls, for the search of an order */
-    STYLE_SHORT_OLD,    /* the same, about a load that may reach step 5 */
+    STYLE_SHORT_STEP_5, /* the same, about a load that may reach step 5 */
     STYLE_NO_ENTRIES,
     STYLE_LARGEST,
     STYLES

@@ -2,10 +2,10 @@
 
 #include "compare.h"
 #include "compare_texts.h"
-#include "marks.h"
 #include "order.h"
 #include "test_head.h"
 #include "test_texts.h"
+#include "word.h"
 
 /* An entry and what it comes to. */
 struct line {
@@ -23,6 +23,7 @@ struct line {
 #define LOADED(p, steps, mark, v) {KIND_STEP, p, 0, LOAD_ANSWERED, steps, mark, v}
 #define DONE(p) {KIND_STEP, p, 0, STORE_DONE, 4, 0, 0}
 #define NOT_DONE(p) {KIND_STEP, p, 0, STORE_NOT_DONE, 2, 0, 0}
+#define YES(p) {KIND_STEP, p, 0, CHECK_YES, 1, 0, 0}
 #define NO(p) {KIND_STEP, p, 0, CHECK_NO, 1, 0, 0}
 #define REFUSED(kind, p, number) {kind, p, 0, number, 0, 0, 0}
 #define ASK_LL(p) ASK(KIND_LOAD, p, 0)
@@ -31,6 +32,7 @@ struct line {
 #define LL(p, v) ASK_LL(p), ON(p, 1), ON(p, 2), LOADED(p, 3, 1, v)
 #define SC_DONE(p, v) ASK_SC(p, v), ON(p, 1), ON(p, 2), ON(p, 3), DONE(p)
 #define SC_NOT_DONE(p, v) ASK_SC(p, v), ON(p, 1), NOT_DONE(p)
+#define VL_YES(p) ASK(KIND_CHECK, p, 0), YES(p)
 #define VL_NO(p) ASK(KIND_CHECK, p, 0), NO(p)
 
 /* Runs A to L, from document 01, "Runs beside each edge"; the mark of run F from document 02. */
@@ -64,6 +66,12 @@ static const struct line same_value[] = {ASK_LL(1), ON(1, 1), LL(0, 7), ASK_SC(0
 static const struct line same_number[] = {ASK_LL(0), ON(0, 1), LL(1, 7), SC_DONE(1, 20), ON(0, 2), LOADED(0, 3, 2, 7)};
 static const struct line same_process[] = {LL(1, 7), SC_DONE(1, 20), ASK_LL(0), ON(0, 1), LL(1, 20),
                                            ASK_SC(1, 30), ON(1, 1), ON(1, 2), ON(1, 3), ON(0, 2), LOADED(0, 3, 2, 20)};
+/* What comes between a load's step 1 and a store's step 8, or a check, of the same process. */
+static const struct line still_linked[] = {LL(1, 7), SC_NOT_DONE(0, 20), VL_YES(1), VL_YES(1), SC_DONE(1, 40)};
+static const struct line in_a_load[] = {ASK_LL(1), ON(1, 1), LL(0, 7), ASK_SC(0, 20), ON(0, 1), ON(0, 2),
+                                        ON(1, 2), LOADED(1, 3, 2, 7), VL_NO(1), SC_NOT_DONE(1, 40)};
+static const struct line at_step_8[] = {LL(1, 7), LL(0, 7), ASK_SC(1, 40), ON(1, 1), ASK_SC(0, 20), ON(0, 1), ON(0, 2), NOT_DONE(1)};
+static const struct line unanswered[] = {LL(1, 7), ASK_SC(1, 40), ON(1, 1), ON(1, 2)};
 
 struct run {
     const char *name;
@@ -88,9 +96,14 @@ static const struct run runs[] = {
     {"a store of the same value since the load's step 1: mark 2", 2, 9, 1, LINES(same_value)},
     {"X of another process with the kept tag's number: mark 2", 2, 9, 1, LINES(same_number)},
     {"X of the kept tag's process with another number: mark 2", 2, 9, 2, LINES(same_process)},
+    {"a store not done and checks since the load: yes, and done", 2, 9, 1, LINES(still_linked)},
+    {"a store since step 1 of the load, before its step 2: no", 2, 9, 1, LINES(in_a_load)},
+    {"a store between another's request and step 8: not done", 2, 9, 1, LINES(at_step_8)},
+    {"a store that stands behind its step 8: a change", 2, 9, 1, LINES(unanswered)},
 };
-enum { RUN_A, RUN_B, RUN_C, RUN_D, RUN_E, RUN_F, RUN_G, RUN_H, RUN_I, RUN_J, RUN_K, RUN_L, RUN_FULL };
 enum { RUNS = sizeof runs / sizeof runs[0] };
+enum { RUN_A, RUN_B, RUN_C, RUN_D, RUN_E, RUN_F, RUN_G, RUN_H, RUN_I, RUN_J, RUN_K, RUN_L, RUN_FULL };
+enum { STILL_LINKED = RUNS - 4, IN_A_LOAD, AT_STEP_8, UNANSWERED }; /* the last four */
 
 static size_t passed;
 static size_t failed;
@@ -393,44 +406,91 @@ static void test_typed_histories(void)
     note("a store that fails though no one else stored has none", finds_none(&idle_loss));
 }
 
-/* The marks of a log: in the runs above they are right, as each comparison asks. A byte of a record made another is found. */
+/* What a log tells of the word: in the runs above it is right, as each comparison asks. A byte of it made another is found, and at the
+ * entry where it stands. */
 
-struct changed_record {
+struct changed_log {
     const char *name;
     size_t run;
-    uint32_t place; /* of the entry */
-    size_t byte;    /* 2 the own steps, 3 the mark, 4 the value's low byte */
+    uint32_t place; /* of the entry, or AT_HEAD */
+    size_t byte;    /* of its record: 0 the outcome, 2 the own steps, 3 the mark, 4 the value's low byte; or of the head */
+    uint8_t from;
     uint8_t to;
 };
 
-static const struct changed_record changed_records[] = {
-    {"run A with mark 2", RUN_A, 3, 3, 2},
-    {"run A with no mark", RUN_A, 3, 3, 0},
-    {"run A with mark 3", RUN_A, 3, 3, 3},
-    {"run A with four own steps", RUN_A, 3, 2, 4},
-    {"run A with the load answering 8", RUN_A, 3, 4, 8},
-    {"run F with mark 1", RUN_F, 10, 3, 1},
-    {"run G with mark 2", RUN_G, 10, 3, 2},
-    {"run G with the load answering 7", RUN_G, 10, 4, 7},
-    {"run H with mark 1", RUN_H, 19, 3, 1},
-    {"run A with a mark of the request", RUN_A, 0, 3, 1},
-    {"run A with a mark of a step before the last", RUN_A, 2, 3, 1},
-    {"run D with a mark of the store done", RUN_D, 8, 3, 1},
-    {"run D with a mark of the store not done", RUN_D, 11, 3, 2},
-    {"run C with a mark of the check", RUN_C, 1, 3, 2},
-    {"run L with a mark of a refused entry", RUN_L, 1, 3, 1},
+static const struct changed_log changed_logs[] = {
+    {"run A with mark 2", RUN_A, 3, 3, 1, 2},
+    {"run A with no mark", RUN_A, 3, 3, 1, 0},
+    {"run A with mark 3", RUN_A, 3, 3, 1, 3},
+    {"run A with the load answering 8", RUN_A, 3, 4, 7, 8},
+    {"run F with mark 1", RUN_F, 10, 3, 2, 1},
+    {"run F with no mark", RUN_F, 10, 3, 2, 0},
+    {"run F with mark 3", RUN_F, 10, 3, 2, 3},
+    {"run G with mark 2", RUN_G, 10, 3, 1, 2},
+    {"run G with the load answering 7", RUN_G, 10, 4, 20, 7},
+    {"run H with mark 1", RUN_H, 19, 3, 2, 1},
+    {"run A with a mark of the request", RUN_A, 0, 3, 0, 1},
+    {"run A with a mark of a step before the last", RUN_A, 2, 3, 0, 1},
+    {"run D with a mark of the store done", RUN_D, 8, 3, 0, 1},
+    {"run D with a mark of the store not done", RUN_D, 11, 3, 0, 2},
+    {"run C with a mark of the check", RUN_C, 1, 3, 0, 2},
+    {"run L with a mark of a refused entry", RUN_L, 1, 3, 0, 1},
+    {"run A with four own steps", RUN_A, 3, 2, 3, 4},
+    {"run A with two own steps at step 1", RUN_A, 1, 2, 1, 2},
+    {"run A with an own step of the request", RUN_A, 0, 2, 0, 1},
+    {"run D with own steps that go on from the call before", RUN_D, 5, 2, 1, 4},
+    {"run F with one own step at step 8", RUN_F, 8, 2, 2, 1},
+    {"run F with three own steps at step 8", RUN_F, 8, 2, 2, 3},
+    {"run H with three own steps at step 5", RUN_H, 19, 2, 4, 3},
+    {"run B with one own step of the store not done", RUN_B, 2, 2, 2, 1},
+    {"run D with two own steps of the store done", RUN_D, 8, 2, 4, 2},
+    {"run C with no own step of the check", RUN_C, 1, 2, 1, 0},
+    {"run K with an own step of a refused request", RUN_K, 1, 2, 0, 1},
+    {"run L with an own step of a refused step", RUN_L, 1, 2, 0, 1},
+    {"run B with the store passing step 8 without a load", RUN_B, 2, 0, STORE_NOT_DONE, STEP_TAKEN},
+    {"run B with the store done by two steps", RUN_B, 2, 0, STORE_NOT_DONE, STORE_DONE},
+    {"run D with the first store not done", RUN_D, 6, 0, STEP_TAKEN, STORE_NOT_DONE},
+    {"run D with the first store not done after step 8", RUN_D, 8, 0, STORE_DONE, STORE_NOT_DONE},
+    {"run D with the first store done by three steps", RUN_D, 7, 0, STEP_TAKEN, STORE_DONE},
+    {"run D with the second store passing step 8", RUN_D, 11, 0, STORE_NOT_DONE, STEP_TAKEN},
+    {"run E with the last store passing step 8", RUN_E, 24, 0, STORE_NOT_DONE, STEP_TAKEN},
+    {"run H with the first store not done", RUN_H, 8, 0, STEP_TAKEN, STORE_NOT_DONE},
+    {"a store not done though still linked", STILL_LINKED, 13, 0, STEP_TAKEN, STORE_NOT_DONE},
+    {"a store passing step 8 though the load is older", IN_A_LOAD, 15, 0, STORE_NOT_DONE, STEP_TAKEN},
+    {"a store passing step 8 behind another's", AT_STEP_8, 13, 0, STORE_NOT_DONE, STEP_TAKEN},
+    {"run C with the answer yes", RUN_C, 1, 0, CHECK_NO, CHECK_YES},
+    {"the full run with the answer yes", RUN_FULL, 10, 0, CHECK_NO, CHECK_YES},
+    {"a check with the answer no though still linked", STILL_LINKED, 8, 0, CHECK_YES, CHECK_NO},
+    {"a second check with the answer no", STILL_LINKED, 10, 0, CHECK_YES, CHECK_NO},
+    {"a check with the answer yes though the load is older", IN_A_LOAD, 12, 0, CHECK_NO, CHECK_YES},
+    {"run A answered by step 2", RUN_A, 2, 0, STEP_TAKEN, LOAD_ANSWERED},
+    {"run A answered as a check", RUN_A, 3, 0, LOAD_ANSWERED, CHECK_YES},
+    {"run C answered as a load", RUN_C, 1, 0, CHECK_NO, LOAD_ANSWERED},
+    {"run H with step 5 going on", RUN_H, 19, 0, LOAD_ANSWERED, STEP_TAKEN},
+    {"run D with step 10 going on", RUN_D, 8, 0, STORE_DONE, STEP_TAKEN},
+    {"run C with step 14 going on", RUN_C, 1, 0, CHECK_NO, STEP_TAKEN},
+    {"run A with the request as a step", RUN_A, 0, 0, REQUEST_TAKEN, STEP_TAKEN},
+    {"run A with step 1 as a request", RUN_A, 1, 0, STEP_TAKEN, REQUEST_TAKEN},
+    {"run L with the step of an idle process taken", RUN_L, 1, 0, PROCESS_IDLE, STEP_TAKEN},
+    {"run A with one change in the head", RUN_A, AT_HEAD, 4, 0, 1},
+    {"run D with no change in the head", RUN_D, AT_HEAD, 4, 1, 0},
+    {"run D with two changes in the head", RUN_D, AT_HEAD, 4, 1, 2},
+    {"run D with 2^24 more changes in the head", RUN_D, AT_HEAD, 7, 0, 1},
+    {"a change of an unanswered store not in the head", UNANSWERED, AT_HEAD, 4, 1, 0},
 };
 
-static void test_wrong_marks(void)
+static void test_changed_logs(void)
 {
     char name[80];
-    for (size_t i = 0; i < sizeof changed_records / sizeof changed_records[0]; i++) {
-        const struct changed_record *c = &changed_records[i];
+    for (size_t i = 0; i < sizeof changed_logs / sizeof changed_logs[0]; i++) {
+        const struct changed_log *c = &changed_logs[i];
         play_run(&runs[c->run]);
-        now.log[LOG_HEAD + RECORD * c->place + c->byte] = c->to;
-        struct mark_fault fault = find_mark_fault(now.file, now.length, now.log);
+        uint8_t *byte = now.log + (c->place == AT_HEAD ? 0 : LOG_HEAD + RECORD * (size_t)c->place) + c->byte;
+        bool there = *byte == c->from;
+        *byte = c->to;
+        struct word_fault fault = find_word_fault(now.file, now.length, now.log);
         snprintf(name, sizeof name, "%s is found", c->name);
-        note(name, fault.what != NULL && fault.place == c->place);
+        note(name, there && fault.what != NULL && fault.place == c->place);
     }
 }
 
@@ -447,7 +507,7 @@ int selftest(void)
     test_orders_found();
     test_wrong_runs();
     test_typed_histories();
-    test_wrong_marks();
+    test_changed_logs();
     test_texts();
     printf("  %llu files were played by both\n", (unsigned long long)files_played);
     printf("%zu passed, %zu failed\n", passed, failed);

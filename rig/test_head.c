@@ -4,13 +4,15 @@
 #include "compare_texts.h"
 #include "selftest.h"
 
-/* The macros of the header that the archive comes with take apart what the rig puts together. */
+/* The macros of the header that the archive comes with take apart what the rig puts together, and name the rig's own marks. */
 #ifdef REEFCAPSTAN_H
 #define TOLD (19 + 256 * 127 + 65536 * 509)
 _Static_assert(REEFCAPSTAN_NUMBER(TOLD) == 19, "the number");
 _Static_assert(REEFCAPSTAN_BLOCK(TOLD) == 127, "the block");
 _Static_assert(REEFCAPSTAN_PLACE(TOLD) == 509, "the place");
 _Static_assert(REEFCAPSTAN_DETAIL(TOLD) == 127 + 256 * 509, "a list's detail");
+_Static_assert(REEFCAPSTAN_MARK_CURRENT == MARK_CURRENT, "mark 1");
+_Static_assert(REEFCAPSTAN_MARK_NOT_CURRENT == MARK_NOT_CURRENT, "mark 2");
 #endif
 
 /* The file: block 0 with N 2, S 9 and V 7, and one empty block. */

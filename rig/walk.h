@@ -31,16 +31,16 @@ static inline const uint8_t *record_at(const uint8_t *log, uint32_t place)
     return log + LOG_HEAD + RECORD * (size_t)place;
 }
 
-/* A load's first own step is step 1. */
-static inline bool links(uint8_t kind, const uint8_t *record)
+/* A load's first own step is step 1. The own steps are counted by who asks, from the entries and their outcomes. */
+static inline bool is_step_1(uint8_t kind, uint32_t steps)
 {
-    return kind == KIND_LOAD && record[0] == STEP_TAKEN && record[2] == 1;
+    return kind == KIND_LOAD && steps == 1;
 }
 
 /* A store's second own step is step 8; when the call goes on after it, X has changed. */
-static inline bool changes_x(uint8_t kind, const uint8_t *record)
+static inline bool is_step_8(uint8_t kind, uint32_t steps)
 {
-    return kind == KIND_STORE && record[0] == STEP_TAKEN && record[2] == 2;
+    return kind == KIND_STORE && steps == 2;
 }
 
 /* A load answered by step 3 has three own steps; one answered by step 5 has four. */
