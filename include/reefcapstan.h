@@ -23,8 +23,8 @@ extern "C" {
 /* The log's length in bytes for a number of entries: a head of 12, and 12 for each entry. */
 #define REEFCAPSTAN_LOG_LENGTH(entries) (12u + 12u * (size_t)(entries))
 
-/* The mark of an answered load, byte 3 of its record: whether its value was still the word's when it was answered. With 1 no store had
- * changed the word since the load's step 1; with 2 one had. Every other record has mark 0.
+/* The mark of an answered load, byte 3 of its record. With 1 no store has changed the word since the load's step 1, so that the value is the
+ * word's at the moment of the answer; with 2 one has. Every other record has mark 0.
  */
 #define REEFCAPSTAN_MARK_CURRENT 1
 #define REEFCAPSTAN_MARK_NOT_CURRENT 2

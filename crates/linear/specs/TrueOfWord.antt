@@ -84,8 +84,8 @@ wordFrom c m (e ∷ es) (w ∷ ws) = wordFrom (goOn stepOfStore c (itemOf e w)) 
 
 -- What this word and demand 3's have in common, at the end of an order of the calls c of n processes: the value, the count of changes, and
 -- for every process with no call open whether its link is at that count. So straight after a load's answer its mark says whether a store
--- stands behind it in the order. (The links themselves may differ: a load is played only when it is answered, and one by step 5 may stand
--- behind changes after its step 1, as in run I.)
+-- that changed the word stands behind it in the order. (The links themselves may differ: a load is played only when it is answered, and one
+-- by step 5 may stand behind changes after its step 1, as in run I.)
 pub record SameWord (n v : ℕ) (c : Calls ℕ) (order : List (Call ℕ)) (m : Word ℕ) : Type 0 where
   pub current : wordsAfter (first v) order 0 .current ≡ m .current
   pub count : wordsAfter (first v) order 0 .count ≡ m .count
