@@ -34,7 +34,7 @@ wordOn c m (goes p) = cond ((isLoad (c .op p) && eqb (c .steps p) 0) || decides 
 wordOn c m (answers p a) = m
 wordOn c m away = m
 
--- whether no store has changed the word since p's latest step 1 of a load
+-- whether p took step 1 of a load, and no store has changed the word since its latest
 abbrev pub unchanged : Word ℕ → ℕ → Bool
 unchanged m p = linked (m .link p) (m .count)
 
