@@ -1,0 +1,3 @@
+pub mod Types
+pub mod Arcs
+pub mod Safe
