@@ -1,0 +1,6 @@
+pub mod Tests
+pub mod Soundness
+pub mod Writers
+pub mod Untouched
+pub mod SoundKept
+pub mod RunLaws
