@@ -4,3 +4,5 @@ pub mod Writers
 pub mod Untouched
 pub mod SoundKept
 pub mod RunLaws
+pub mod PartsOfRun
+pub mod Refusals
