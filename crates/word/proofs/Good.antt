@@ -94,7 +94,7 @@ module _ {A : Type 0} where
   good-load-after {a} {now} {order} t r w n g m = ins-after w n a order (g .plays) (m .fits) t now r (others now t r w n order m)
 
   -- At the end: the calls can be put in one order,
-  pub good-order : {a : A} {now : ℕ} {order played : List (Call A)} → Good a now order played → InOrder a played
+  abbrev pub good-order : {a : A} {now : ℕ} {order played : List (Call A)} → Good a now order played → InOrder a played
   good-order {order = order} g = record { order = order; once = g .once; inTime = g .inTime; plays = g .plays }
 
   -- and a call answered before another was requested stands first in it, if each is answered when or after it is decided.

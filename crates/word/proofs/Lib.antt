@@ -10,9 +10,11 @@
 --     RealTime  "stands first" by places of the order (stands-first)
 --     Good      an order of the calls decided so far, and the three ways in which it goes on
 --     Told      replies and played calls, and how they go on; done-on: an item adds to the stores done exactly if it decides one
+--     Ordered   an order and what is known of the replies make demand 3's OneOrder (one-order)
+--     Items     an entry that is turned away tells nothing (item-away)
 --     Decide    playing and real time decided by computing
 -- A machine's proof needs this of them:
---     the order      good-start, good-tick, good-append, good-load; at the end good-order and good-first
+--     the order      good-start, good-tick, good-append, good-load; at the end one-order, with the Told of the replies
 --     a request      own-new; for the calls of others after it own-snoc, own-ins
 --     a load's step  late-new at its first; after it late-snoc, late-ins, late-later; they and `own` make the MayLoad of good-load
 --     totals         good-count, good-value; total-snoc, total-quiet, total-ins; value-snoc, value-new, value-ins
@@ -24,7 +26,9 @@ pub mod Decide
 pub mod From
 pub mod Good
 pub mod Insert
+pub mod Items
 pub mod Lists
+pub mod Ordered
 pub mod Play
 pub mod Put
 pub mod RealTime
