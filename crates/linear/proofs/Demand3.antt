@@ -1,12 +1,10 @@
 -- Demand 3 of every run from a start: whatever N, S, V and the entries are.
 -- Assumes nothing.
-use Prim.Native.Nat.{ℕ, suc, _+_, _≤_}
+use Prim.Native.Nat.{ℕ, suc, _+_}
 use mathlib.Core.Path.{refl, _≡_, sym, ap, _∙_, subst}
 use mathlib.Core.Bool.{Bool, true, false, cond}
-use mathlib.Core.HLevel.{Π-prop}
-use mathlib.Core.List.{List, [], _∷_, map, Perm·symm}
+use mathlib.Core.List.{List, [], _∷_, map}
 use native.Mathlib.Omega.{arith}
-use native.Mathlib.Bridge.{le-prop}
 use Rattle.numbers.specs.Numbers.{inRange}
 use Rattle.linear.specs.Types.{Sequence, Entry, State}
 use Rattle.machine.specs.State.{firstState}
@@ -15,12 +13,11 @@ use Rattle.machine.specs.Run.{EntryNote, played, noteOf, after, notes, changeCo
 use Rattle.machine.proofs.Frame.{frame}
 use Rattle.machine.proofs.RunLaws.{ready-start, ready-played, size-kept}
 use Rattle.bench.specs.Bench.{inLog}
-use Rattle.log.specs.declared.Note as log
-use Rattle.word.specs.Word.{Word, first, Call, Every}
-use Rattle.word.specs.Calls.{Reply, Calls, noCalls, goOn, callsFrom, doneCount, Answered, OneOrder}
-use Rattle.word.proofs.Lists.{every-map, every-perm}
-use Rattle.word.proofs.Good.{good-first, good-count, good-value}
-use Rattle.word.proofs.Told.{NotLater, every-mem, done-on}
+use Rattle.word.specs.Word.{Word, first}
+use Rattle.word.specs.Calls.{Calls, noCalls, goOn, callsFrom, doneCount}
+use Rattle.word.proofs.Good.{good-count, good-value}
+use Rattle.word.proofs.Told.{done-on}
+use Rattle.word.proofs.Ordered.{one-order}
 use Rattle.linear.specs.Demand3.{stepOfStore, itemOf, itemsOf, callsIn, RightRecord, RightRecords, Demand3}
 use Rattle.linear.specs.TrueOfWord.{ChangesDecide, wordOn, AllTrueOfWord, wordFrom, SameWord}
 use Rattle.linear.proofs.Simulated.{Simulated, sim-start, sim-entry, same-link}
@@ -63,40 +60,19 @@ run-on n v st c m (e ∷ es) size ready sim known =
     add true m n k e f = omega arith
     add false m n k e f = omega arith
 
--- a reply to a call of an order stands where the call was decided, or later
-answered-late : (replies : List (Reply ℕ)) (played : List (Call ℕ)) → Every (λ c. Every (NotLater c) replies) played
-    → Every (λ c. (t : ℕ) → Answered replies c t → c .decided ≤ t) played
-answered-late replies played =
-    every-map (λ c. Every (NotLater c) replies) (λ c. (t : ℕ) → Answered replies c t → c .decided ≤ t)
-    (λ c h t a. subst (λ (s : ℕ). c .decided ≤ s) (a .2) (every-mem (NotLater c) replies (a .0) h (a .1) (a .3) (a .4)))
-    played
-
 module _ (n : ℕ) (s : Sequence) (v : ℕ) (range : inRange n s ≡ true) (es : List Entry) where
   pub ended : Ended n v (after (firstState n s v) es) noCalls (callsIn es (map inLog (notes (firstState n s v) es))) (first v 0)
       (wordFrom noCalls (first v 0) es (map inLog (notes (firstState n s v) es))) es (notes (firstState n s v) es)
   ended = run-on n v (firstState n s v) noCalls (first v 0) es refl (ready-start n s v range) (sim-start n s v range) (known-start n s v range)
 
-  abbrev ws : List log.Note
-  ws = map inLog (notes (firstState n s v) es)
-
-  one-order : OneOrder v (callsIn es ws)
-  one-order =
-      let sim = ended .sim .sim in
-      let told = ended .known .told in
-      record {
-        inOrder = record { order = sim .order; once = sim .good .once; inTime = sim .good .inTime; plays = sim .good .plays };
-        first =
-            good-first (Answered (callsIn es ws .replies)) (sim .good)
-            (every-perm (λ c. (t : ℕ) → Answered (callsIn es ws .replies) c t → c .decided ≤ t) (λ c. Π-prop (λ t. Π-prop (λ a. le-prop)))
-            (Perm·symm (sim .good .once)) (answered-late (callsIn es ws .replies) (callsIn es ws .played) (told .late)));
-        answered = told .answered;
-        oneByOne = told .oneByOne;
-        only = told .only;
-      }
-
   -- demand 3, with the count of changes that the head is given
   pub demand-3 : Demand3 n v (changeCount (notes (firstState n s v) es)) es (map inLog (notes (firstState n s v) es))
-  demand-3 = record { oneOrder = one-order; records = ended .records; changesCounted = omega (arith, ended .changed) }
+  demand-3 =
+      record {
+        oneOrder = one-order (callsIn es (map inLog (notes (firstState n s v) es))) (ended .sim .sim .good) (ended .known .told);
+        records = ended .records;
+        changesCounted = omega (arith, ended .changed);
+      }
 
   -- X changes exactly where a store's second own step goes on
   pub changes-decide : ChangesDecide noCalls es (notes (firstState n s v) es)

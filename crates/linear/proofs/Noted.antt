@@ -1,18 +1,16 @@
 -- An entry's record by its outcome, the item that it tells, and that an entry which is turned away tells nothing.
 -- Assumes nothing.
-use Prim.Native.Nat.{ℕ, _≤_}
+use Prim.Native.Nat.{ℕ}
 use mathlib.Core.Path.{_≡_, refl}
 use mathlib.Core.Bool.{true, false≢true}
-use native.Mathlib.Omega.{arith}
 use lib.Dec.{leb}
-use lib.ListN.{List·getD-eq-default}
-use borrow.Author.Tests.{leb-true, ne-eqb}
 use Rattle.linear.specs.Types.{Process, Tag, Entry, Kind, Ask, Step, Outcome, Taken, GoesOn, Value, Done, NotDone, Yes, No, NoProcess, CallOpen, UsedUp, NoCall, Unsound, State, Note}
 use Rattle.step.specs.Steps.{toldOf}
 use Rattle.machine.specs.State.{recordAt}
 use Rattle.machine.specs.Run.{turnedAway, stepsOf, markBy}
 use Rattle.word.specs.Calls.{Item, away}
-use Rattle.linear.specs.Demand3.{stepItems, itemBy}
+use Rattle.word.proofs.Items as items
+use Rattle.linear.specs.Demand3.{wantsOf, saidOf, itemBy}
 
 abbrev pub entryOf : Process → Kind → Entry
 entryOf p k = record { process = p; kind = k }
@@ -34,10 +32,7 @@ came st p k st′ o = itemBy (p .0) k (noteWith st p k st′ o)
 
 -- an outcome of 11 or more tells nothing, and counts no step
 pub item-away : (p : ℕ) (k : Kind) (w : Note) → leb 11 (w .outcome) ≡ true → itemBy p k w ≡ away
-item-away p (Ask request) w e = rw (ne-eqb (w .outcome) 0 (λ z. omega (arith, z, leb-true 11 (w .outcome) e)))
-item-away p Step w e =
-    let past : 7 ≤ w .outcome = omega (arith, leb-true 11 (w .outcome) e) in
-    List·getD-eq-default (stepItems p (w .value)) away past
+item-away p k w e = items.item-away p (wantsOf k) (saidOf w) e
 
 pub away-steps : (st : State) (p : Process) (k : Kind) (o : Outcome) → turnedAway o ≡ true → stepsOf st p k o ≡ 0
 away-steps st p (Ask request) o e = refl
