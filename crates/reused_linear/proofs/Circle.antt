@@ -17,11 +17,11 @@ abbrev pub Comes : ℕ → ℕ → ℕ → ℕ → Type 0
 Comes m b d a = (b + d ≡ a) ⊎ (b + d ≡ a + m)
 
 -- two flags joined
-or-true : (s t : Bool) → (s || t) ≡ true → (s ≡ true) ⊎ (t ≡ true)
+pub or-true : (s t : Bool) → (s || t) ≡ true → (s ≡ true) ⊎ (t ≡ true)
 or-true true t e = inl refl
 or-true false t e = inr e
 
-and-true : (s t : Bool) → (s && t) ≡ true → (s ≡ true) × (t ≡ true)
+pub and-true : (s t : Bool) → (s && t) ≡ true → (s ≡ true) × (t ≡ true)
 and-true true t e = (refl, e)
 and-true false t e = absurd (false≢true e)
 

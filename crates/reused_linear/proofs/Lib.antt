@@ -4,3 +4,6 @@ pub mod Held
 pub mod Inv
 pub mod Owners
 pub mod Readers
+pub mod Kept
+pub mod Start
+pub mod Theorems

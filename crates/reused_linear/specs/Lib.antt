@@ -1,3 +1,4 @@
 pub mod Types
 pub mod Arcs
 pub mod Safe
+pub mod Claims

@@ -17,6 +17,7 @@ pub use Rattle.reused.specs.declared.Place.the-variants.{Idle, Load1, Load2, Lo
 pub use Rattle.reused.specs.declared.Point.{Point}
 pub use Rattle.reused.specs.declared.Request.{Request}
 pub use Rattle.reused.specs.declared.Request.the-variants.{Load, Store, Check}
+pub use Rattle.reused.specs.declared.Requested.{Requested}
 pub use Rattle.reused.specs.declared.State.{State}
 pub use Rattle.reused.specs.declared.Stepped.{Stepped}
 pub use Rattle.reused.specs.declared.Stored.{Stored}
