@@ -178,8 +178,8 @@ module _ {N M : ℕ} (sizes : Sizes N (intervalOf N) M) {x : Triple} {own : ℕ 
       (nums-new sizes n (held (p .0) x own N) (held-few (p .0) x own N here (λ h. still-idle (o .place) (subst Still (sym e) tt) h)))
       (atX-new sizes n (held (p .0) x own N) (ap extra e) (inv .xTag) (λ f. x-held (p .0) x own N f) (inv .atX (p .0) here))
       (λ q l.
-          pair-new sizes n (held (p .0) x own N) (λ a f g. name-held (p .0) x own N q a l f g) (λ w h f g. read-held (p .0) x own N q w l h f g) (clear none q l)
-          (omega (arith, l, last)) (inv .pairs (p .0) here q l))
+      pair-new sizes n (held (p .0) x own N) (λ a f g. name-held (p .0) x own N q a l f g) (λ w h f g. read-held (p .0) x own N q w l h f g) (clear none q l)
+      (omega (arith, l, last)) (inv .pairs (p .0) here q l))
 
   -- what an entry of p leaves, with some places
   abbrev pub Left : Stepped → Safe → Type 0

@@ -64,10 +64,11 @@ inv-entered {st} {safe} steady p l kind = go kind
     put-back : (k : Kind) (s : Safe) → Left (sizes-ready (steady .ready)) (steady .inv .1) p l (partsAfter (st .n) (st .m) p (st .x) (rowAt st (p .0)) (lookedAt st (rowAt st (p .0))) k) s
         → InvOf (withEntry st p (partsAfter (st .n) (st .m) p (st .x) (rowAt st (p .0)) (lookedAt st (rowAt st (p .0))) k)) (put (p .0) s safe)
     put-back k s left =
-        let r = partsAfter (st .n) (st .m) p (st .x) (rowAt st (p .0)) (lookedAt st (rowAt st (p .0))) k in
-        (left .0,
-        subst (λ (f : ℕ → Own). Inv (st .n) (intervalOf (st .n)) (st .m) (r .x) f (put (p .0) s safe) (left .0))
-        (sym (rows-put st p r (omega (arith, l, few-ready (steady .ready), steady .ready .full)))) (left .1))
+        let r = partsAfter (st .n) (st .m) p (st .x) (rowAt st (p .0)) (lookedAt st (rowAt st (p .0))) k in (
+          left .0,
+          subst (λ (f : ℕ → Own). Inv (st .n) (intervalOf (st .n)) (st .m) (r .x) f (put (p .0) s safe) (left .0))
+              (sym (rows-put st p r (omega (arith, l, few-ready (steady .ready), steady .ready .full)))) (left .1),
+        )
 
     go : (k : Kind) → InvOf (withEntry st p (partsAfter (st .n) (st .m) p (st .x) (rowAt st (p .0)) (lookedAt st (rowAt st (p .0))) k)) (safeBy st p k safe)
     go (Ask request) =

@@ -38,7 +38,6 @@ pub record Claims (st : State) (safe : ℕ → Safe) : Type 0 where
   pub w1 : (r : ℕ) → r < st .n → (w : Triple) → OutsideLoad (rowAt st r .place) → rowAt st r .old ≡ Holds w → rowAt st r .check ≡ Holds w
       → InArc (st .m) (ahead (st .m) (rowAt st (w .process .0) .tag .0) (atChoice (rowAt st (w .process .0) .place))) (endSafe (st .n) (st .m) (safe (w .process .0))) (w .tag .0)
       → ⊥
-
   -- (W9) "under the conditions when a new tag is selected from the current safe interval, the end of the safe interval has not been reached
   -- yet": tag.r ⊕ 1 is in [startSafe.r, endSafe.r), one further from startSafe.r than tag.r is
   pub w9 : (r : Process) → r .0 < st .n → rowAt st (r .0) .place ≡ Store2
@@ -47,6 +46,5 @@ pub record Claims (st : State) (safe : ℕ → Safe) : Type 0 where
       → (let own = rowAt st (r .0) in
       InArc (st .m) (safe (r .0) .start) (endSafe (st .n) (st .m) (safe (r .0))) (ahead (st .m) (own .tag .0) 1)
       × (way (st .m) (safe (r .0) .start) (ahead (st .m) (own .tag .0) 1) ≡ way (st .m) (safe (r .0) .start) (own .tag .0) + 1))
-
   -- (W4short) "is used to limit the amount of 'jumps'"
   pub w4short : (r : ℕ) → r < st .n → safe r .jump < 2 * st .n + 1

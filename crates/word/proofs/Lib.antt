@@ -34,3 +34,4 @@ pub mod Put
 pub mod RealTime
 pub mod Relink
 pub mod Told
+pub mod Stages
