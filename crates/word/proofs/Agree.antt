@@ -1,13 +1,16 @@
--- What the definitions come to: document 01's runs as the atomic linked word has them, and what an order of given calls holds.
+-- What the definitions come to: document 01's runs as the atomic linked word has them, what an order of given calls holds, what items and
+-- records tell.
 -- These are the facts that an edit of a definition breaks.
 -- Assumes nothing.
 use Prim.Native.Nat.{ℕ}
 use mathlib.Core.Path.{_≡_, refl}
 use mathlib.Core.HLevel.{⊥-prop, ¬-prop}
-use mathlib.Core.List.{List, [], _∷_, List·Mem, Perm, Perm·cons, Perm·symm, Perm·mem-iff, perm-append-singleton}
+use mathlib.Core.Logic.{inr}
+use mathlib.Core.List.{List, [], _∷_, map, List·Mem, Perm, Perm·cons, Perm·symm, Perm·mem-iff, perm-append-singleton}
 use native.Mathlib.Omega.{arith}
 use Rattle.word.specs.Word.{Op, load, store, check, Answer, value, done, notDone, saysYes, saysNo, answerOf, first, Call, Every, Plays, InTime, InOrder}
 use Rattle.word.specs.Calls.{Item, asks, goes, answers, away, Reply, noCalls, callsFrom}
+use Rattle.word.specs.Records.{Wants, aRequest, aStep, Asked, Said, Rules, itemOf, RightRecords}
 use Rattle.word.proofs.Lists.{every-perm}
 
 -- Exactly the calls given: each stands in the order, and nothing else does.
@@ -100,3 +103,35 @@ pub items-read :
     × (callsFrom 2 noCalls items .replies ≡ reply 6 0 1 load 3 (value 7) ∷ reply 8 7 2 check 1 saysNo ∷ reply 11 2 0 (store 20) 4 done ∷ [])
 unfolding callsFrom
 items-read = (refl, refl)
+
+-- an entry of process p, and a record of it: outcome, steps, value
+abbrev pub entry : ℕ → Wants ℕ → Asked ℕ
+entry p wants = record { process = p; wants = wants }
+
+abbrev pub says : ℕ → ℕ → ℕ → ℕ → Said ℕ
+says p outcome steps v = record { outcome = outcome; process = p; steps = steps; value = v }
+
+-- What an outcome tells of a step, number by number, and of a request.
+pub records-read :
+    (map (λ o. itemOf (entry 3 aStep) (says 3 o 1 9)) (0 ∷ 1 ∷ 2 ∷ 3 ∷ 4 ∷ 5 ∷ 6 ∷ 7 ∷ 14 ∷ [])
+    ≡ away ∷ goes 3 ∷ answers 3 (value 9) ∷ answers 3 done ∷ answers 3 notDone ∷ answers 3 saysYes ∷ answers 3 saysNo ∷ away ∷ away ∷ [])
+    × (map (λ o. itemOf (entry 3 (aRequest 5 check)) (says 3 o 0 0)) (0 ∷ 1 ∷ 12 ∷ []) ≡ asks 3 5 check ∷ away ∷ away ∷ [])
+records-read = (refl, refl)
+
+-- Records that are right, of a machine that may do anything: a load that goes on and is answered, and a step that nobody asked for.
+abbrev pub anything : Rules ℕ
+anything = record { noValue = 0; stepOfStore = 2; MayGoOn = λ o k. Unit {0}; MayAnswer = λ o a k. Unit {0}; MayRefuse = λ opened o k. Unit {0} }
+
+pub records-right :
+    RightRecords anything 2 noCalls (entry 0 (aRequest 0 load) ∷ entry 0 aStep ∷ entry 0 aStep ∷ entry 0 aStep ∷ [])
+    (says 0 0 0 0 ∷ says 0 1 1 0 ∷ says 0 2 2 7 ∷ says 0 14 0 0 ∷ [])
+records-right = (
+  record { process = refl; steps = refl; value = refl; allowed = (omega arith, refl) },
+  (
+    record { process = refl; steps = refl; value = refl; allowed = (omega arith, refl, tt) },
+    (
+      record { process = refl; steps = refl; value = refl; allowed = (omega arith, refl, tt) },
+      (record { process = refl; steps = refl; value = refl; allowed = inr (omega arith, (refl, refl)) }, tt),
+    ),
+  ),
+)

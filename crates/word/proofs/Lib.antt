@@ -1,5 +1,6 @@
 -- The theorems on atomic linked words, for any number of words and any type of values. Which file says what, bottom up:
 --     Agree     the definitions at document 01's runs; an order holds exactly the calls given (stands, given)
+--     Silly     records that have to fall, whatever a machine's rules are
 --     Lists     facts on every element of a list, with no word in them
 --     Put       a function changed at one place, and at two (change-comm)
 --     Play      the end of play (after); a list played in two parts
@@ -33,5 +34,6 @@ pub mod Play
 pub mod Put
 pub mod RealTime
 pub mod Relink
+pub mod Silly
 pub mod Told
 pub mod Stages
