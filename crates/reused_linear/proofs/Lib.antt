@@ -7,3 +7,5 @@ pub mod Readers
 pub mod Kept
 pub mod Start
 pub mod Theorems
+pub mod Side
+pub mod Join

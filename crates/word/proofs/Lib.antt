@@ -22,6 +22,7 @@
 --     what is quiet  writes-nothing, writes-other; what a store writes: writes-own
 --     links          good-load-after with link-own, link-others, other-word; after-snoc with link-kept
 pub mod Agree
+pub mod Aside
 pub mod Changes
 pub mod Decide
 pub mod From

@@ -79,6 +79,33 @@ module _ {A : Type 0} where
   next-step {q} {t} {n} steps o =
       record { counted = ap suc (put-same q (suc n) steps ∙ o .counted); before = omega (arith, o .before); since = o .since }
 
+  -- The calls after a step of p that goes on, if it decides a store or not; and after one that answers p's call, if that was decided before or not.
+  abbrev pub gone : Calls A → ℕ → Bool → Calls A
+  gone c p b =
+      record {
+        now = suc (c .now);
+        opened = c .opened;
+        asked = c .asked;
+        word = c .word;
+        op = c .op;
+        steps = put p (suc (c .steps p)) (c .steps);
+        played = cond b (c .played ++ callBy c p done ∷ []) (c .played);
+        replies = c .replies;
+      }
+
+  abbrev pub closed : Calls A → ℕ → Answer A → Bool → Calls A
+  closed c p a b =
+      record {
+        now = suc (c .now);
+        opened = put p false (c .opened);
+        asked = c .asked;
+        word = c .word;
+        op = c .op;
+        steps = put p (suc (c .steps p)) (c .steps);
+        played = cond b (c .played) (c .played ++ callBy c p a ∷ []);
+        replies = c .replies ++ replyBy c p a ∷ [];
+      }
+
   module _ {n : ℕ} {stage : ℕ → Stage} {c : Calls A} (known : Known n stage c) (d : ℕ) where
     -- an entry that was turned away
     pub known-away : Known n stage (goOn d c away)
@@ -141,29 +168,15 @@ module _ {A : Type 0} where
                 (every-map (λ x. x .decided < c .now) (λ x. x .process ≡ p → x .decided < c .now) (λ x i e. i) (c .played) (known .told .decided)),
           )
 
-      -- the calls after a step that goes on, if it decides a store or not
-      abbrev gone : Bool → Calls A
-      gone b =
-          record {
-            now = suc (c .now);
-            opened = c .opened;
-            asked = c .asked;
-            word = c .word;
-            op = c .op;
-            steps = put p (suc (c .steps p)) (c .steps);
-            played = cond b (c .played ++ callBy c p done ∷ []) (c .played);
-            replies = c .replies;
-          }
-
-      goes-by : {b : Bool} (s : Stage) → decides d c p ≡ b → Known n (put p s stage) (gone b) → Known n (put p s stage) (goOn d c (goes p))
-      goes-by {b} s e k = subst (λ (t : Bool). Known n (put p s stage) (gone t)) (sym e) k
+      goes-by : {b : Bool} (s : Stage) → decides d c p ≡ b → Known n (put p s stage) (gone c p b) → Known n (put p s stage) (goOn d c (goes p))
+      goes-by {b} s e k = subst (λ (t : Bool). Known n (put p s stage) (gone c p t)) (sym e) k
 
       -- a step that goes on and decides nothing
       pub known-goes : {rank : ℕ} {k : Asking} → stage p ≡ undecided rank k → decides d c p ≡ false → Known n (put p (undecided (suc rank) k) stage) (goOn d c (goes p))
       known-goes {rank} {k} e no-store =
           let (o, asked, own) = known-at e in
           goes-by (undecided (suc rank) k) no-store
-          (known-on (gone false) (undecided (suc rank) k) refl (λ q ne. refl) (λ q ne. refl) (λ q ne. refl) (λ q ne. refl) (put-other p (suc (c .steps p)) (c .steps))
+          (known-on (gone c p false) (undecided (suc rank) k) refl (λ q ne. refl) (λ q ne. refl) (λ q ne. refl) (λ q ne. refl) (put-other p (suc (c .steps p)) (c .steps))
           (λ x m. m) (λ q t ne h. h) (λ q t ne h. h) (told-tick (known .told)) (opened-at e) (next-step (c .steps) o, asked, own))
 
       -- a store's step that decides it as done
@@ -171,7 +184,7 @@ module _ {A : Type 0} where
       known-done {rank} e a-store =
           let (o, asked, own) = known-at e in
           goes-by (decided (suc rank)) a-store
-          (known-on (gone true) (decided (suc rank)) refl (λ q ne. refl) (λ q ne. refl) (λ q ne. refl) (λ q ne. refl) (put-other p (suc (c .steps p)) (c .steps))
+          (known-on (gone c p true) (decided (suc rank)) refl (λ q ne. refl) (λ q ne. refl) (λ q ne. refl) (λ q ne. refl) (put-other p (suc (c .steps p)) (c .steps))
           (λ x m. Memᴰ·append-left _ m) (λ q t ne h. h) (λ q t ne h. own-snoc q t (c .played) (callBy c p done) (λ f. ne (sym f)) h)
           (told-call (known .told) (callBy c p done) (o .before) refl refl (o .since) own) (opened-at e)
           (next-step (c .steps) o, asked, (c .now, omega arith, Memᴰ·append-right (c .played) (List·Memᴰ·head refl))))
@@ -179,26 +192,12 @@ module _ {A : Type 0} where
       not-mine : (a : Answer A) (q t : ℕ) → q ≢ p → Since q t (c .replies) → Since q t (c .replies ++ replyBy c p a ∷ [])
       not-mine a q t ne h = every-snoc (λ r. r .process ≡ q → r .place < t) (c .replies) (replyBy c p a) h (λ e. absurd (ne (sym e)))
 
-      -- the calls after an answer, if the call was decided before or not
-      abbrev closed : Answer A → Bool → Calls A
-      closed a b =
-          record {
-            now = suc (c .now);
-            opened = put p false (c .opened);
-            asked = c .asked;
-            word = c .word;
-            op = c .op;
-            steps = put p (suc (c .steps p)) (c .steps);
-            played = cond b (c .played) (c .played ++ callBy c p a ∷ []);
-            replies = c .replies ++ replyBy c p a ∷ [];
-          }
-
       -- an answer that decides its call
       pub known-answers : {rank : ℕ} {k : Asking} (a : Answer A) → isDone a ≡ false → stage p ≡ undecided rank k → Known n (put p shut stage) (goOn d c (answers p a))
       known-answers a not-done e =
           let (o, asked, own) = known-at e in
-          subst (λ (t : Bool). Known n (put p shut stage) (closed a t)) (sym not-done)
-          (known-on (closed a false) shut refl (put-other p false (c .opened)) (λ q ne. refl) (λ q ne. refl) (λ q ne. refl) (put-other p (suc (c .steps p)) (c .steps))
+          subst (λ (t : Bool). Known n (put p shut stage) (closed c p a t)) (sym not-done)
+          (known-on (closed c p a false) shut refl (put-other p false (c .opened)) (λ q ne. refl) (λ q ne. refl) (λ q ne. refl) (put-other p (suc (c .steps p)) (c .steps))
           (λ x m. Memᴰ·append-left _ m) (not-mine a) (λ q t ne h. own-snoc q t (c .played) (callBy c p a) (λ f. ne (sym f)) h)
           (told-both (known .told) (replyBy c p a) (o .before) refl (o .since) own) (put-same p false (c .opened)) tt)
 
@@ -206,5 +205,5 @@ module _ {A : Type 0} where
       pub known-answered : {rank : ℕ} → stage p ≡ decided rank → Known n (put p shut stage) (goOn d c (answers p done))
       known-answered e =
           let (o, asked, (b, l, m)) = known-at e in
-          known-on (closed done true) shut refl (put-other p false (c .opened)) (λ q ne. refl) (λ q ne. refl) (λ q ne. refl) (put-other p (suc (c .steps p)) (c .steps))
+          known-on (closed c p done true) shut refl (put-other p false (c .opened)) (λ q ne. refl) (λ q ne. refl) (λ q ne. refl) (put-other p (suc (c .steps p)) (c .steps))
           (λ x i. i) (not-mine done) (λ q t ne h. h) (told-reply (known .told) (replyBy c p done) (o .before) refl (b, omega arith, m)) (put-same p false (c .opened)) tt
