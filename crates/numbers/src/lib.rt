@@ -13,7 +13,7 @@ pub struct Sequence(pub u64);
 pub struct Version(pub u64);
 
 // N is 1 to 16.
-fn n_in_range(n: usize) -> bool
+pub fn n_in_range(n: usize) -> bool
     ensures { λ r. ⌜ r ≡ inRangeN n ⌝ }
 {
     let some = 1 <= n;

@@ -1,15 +1,17 @@
 -- What soundness says, fact by fact. The test computes; these records are what proofs use, and each is the same as its test.
 use Prim.Native.Nat.{ℕ, _+_, _*_, _≤_, _<_}
-use mathlib.Core.Path.{_≡_, refl, sym, _∙_}
-use mathlib.Core.Bool.{Bool, true, false, _&&_, false≢true}
+use mathlib.Core.Path.{_≡_, subst}
+use mathlib.Core.Bool.{Bool, true, _&&_}
 use native.Mathlib.Nat.{mul-le-mul, mod-lt}
 use native.Mathlib.Omega.{arith}
 use lib.Dec.{leb, ltb}
+use mir.Syntax.{w64}
+use mir.Val.{Fits}
 use borrow.Author.Tests.{ltb-true, leb-true, lt-ltb, le-leb}
 use Rattle.numbers.specs.Numbers.{inRangeN, allBelow, numberUnless}
 use Rattle.numbers.proofs.Below.{all-at, all-intro}
 use Rattle.numbers.proofs.First.{found-both, unless-fine}
-use Rattle.reused.specs.Types.{Triple, Kept, Nothing, Holds, Named, Own, Place, State}
+use Rattle.reused.specs.Types.{Announced, Named, Names, Own, State}
 use Rattle.reused.specs.Circle.{intervalOf, inRangeM, sizesNumber, ahead}
 use Rattle.reused.specs.State.{soundPoint, soundTriple, soundKept, soundNamed, soundLoad, soundRow, soundSizes, sound, rowAt}
 use Rattle.reused.specs.Frame.{Ready}
@@ -53,6 +55,22 @@ pub circle-least : {n m : ℕ} → Sizes n m → 4 * intervalOf n ≤ m
 circle-least {n} {m} h =
     let k : 4 * intervalOf n ≤ (2 * n + 2) * intervalOf n = mul-le-mul {n₁ = 4} {m₁ = intervalOf n} {n₂ = 2 * n + 2} {m₂ = intervalOf n} (omega (arith, h .some)) (omega arith) in
     omega (arith, k, h .low)
+
+-- An interval is shorter than the circle.
+pub interval-below : {n m : ℕ} → Sizes n m → intervalOf n < m
+interval-below {n} {m} h = omega (arith, circle-least h, interval-least n (h .some))
+
+-- N in range is at most 16, and all that is reckoned of it fits.
+pub few-of : (n : ℕ) → inRangeN n ≡ true → n ≤ 16
+few-of n e = leb-true _ _ (and-right (leb 1 n) (leb n 16) e)
+
+pub interval-fits : (n : ℕ) → n ≤ 16 → Fits w64 (intervalOf n)
+interval-fits n h = record { fits = omega (arith, interval-most n h) }
+
+pub circle-fits : (n : ℕ) → n ≤ 16 → Fits w64 ((2 * n + 2) * intervalOf n)
+circle-fits n h =
+    let k : (2 * n + 2) * intervalOf n ≤ 34 * 528 = mul-le-mul {n₁ = 2 * n + 2} {m₁ = intervalOf n} {n₂ = 34} {m₂ = 528} (omega (arith, h)) (interval-most n h) in
+    record { fits = omega (arith, k) }
 
 pub circle-some : {n m : ℕ} → Sizes n m → 12 ≤ m
 circle-some {n} {m} h = omega (arith, circle-least h, interval-least n (h .some))
@@ -104,6 +122,12 @@ row-back n m own h =
     (and-both _ _ (lt-ltb _ _ (h .tag))
     (and-both _ _ (lt-ltb _ _ (h .start))
     (and-both _ _ (lt-ltb _ _ (h .search)) (h .load))))))
+
+-- an announced tag
+pub named-tag : (n m : ℕ) {looked : Named} {a : Announced} → looked ≡ Names a → soundNamed n m looked ≡ true → a .tag .0 < m
+named-tag n m {looked} {a} e h =
+    let t : soundNamed n m (Names a) ≡ true = subst (λ (l : Named). soundNamed n m l ≡ true) e h in
+    ltb-true _ _ (and-left (soundPoint m (a .tag)) (ltb (a .process .0) n) t)
 
 -- the whole state
 pub record Sound (st : State) : Type 0 where

@@ -6,3 +6,4 @@ pub mod Called
 pub mod Parts
 pub mod Run
 pub mod Frame
+pub mod Forms
