@@ -66,14 +66,14 @@ module _ {n : ℕ} {x : Triple} {own : ℕ → types.Own} {c : Calls Stored} (s 
               split (λ q. q < n → Side (c′ .now) order′ x′ q (c′ .asked q) (c′ .op q) (put (p .0) o′ own q) (put (p .0) seen′ (s .seen) q)) (p .0)
               (λ i. later (p .0) o′ (put (p .0) o′ own (p .0)) seen′ (put (p .0) seen′ (s .seen) (p .0)) (sym (put-same (p .0) o′ own)) (sym (put-same (p .0) seen′ (s .seen))) mine)
               (λ q ne i.
-                  let side = s .sides q i in
-                  later q (own q) (put (p .0) o′ own q) (s .seen q) (put (p .0) seen′ (s .seen) q) (sym (put-other (p .0) o′ own q ne)) (sym (put-other (p .0) seen′ (s .seen) q ne))
-                  (subst₂ (λ (t : ℕ) (o : Op Stored). Side (suc (c .now)) order′ x′ q t o (own q) (s .seen q)) (sym (same-asked q ne)) (sym (same-op q ne))
-                  (record {
-                    sees = sees q i (side .sees);
-                    link = λ h. asides q ne .link ∙ side .link h;
-                    call = call-on (processOf q) (asides q ne) (c .asked q) (c .op q) (s .seen q) (own q .place) (side .call);
-                  })));
+              let side = s .sides q i in
+              later q (own q) (put (p .0) o′ own q) (s .seen q) (put (p .0) seen′ (s .seen) q) (sym (put-other (p .0) o′ own q ne)) (sym (put-other (p .0) seen′ (s .seen) q ne))
+              (subst₂ (λ (t : ℕ) (o : Op Stored). Side (suc (c .now)) order′ x′ q t o (own q) (s .seen q)) (sym (same-asked q ne)) (sym (same-op q ne))
+              (record {
+                sees = sees q i (side .sees);
+                link = λ h. asides q ne .link ∙ side .link h;
+                call = call-on (processOf q) (asides q ne) (c .asked q) (c .op q) (s .seen q) (own q .place) (side .call);
+              })));
         }
       where
         later : (q : ℕ) (o o″ : types.Own) (k k″ : Link) → o ≡ o″ → k ≡ k″ → Side (suc (c .now)) order′ x′ q (c′ .asked q) (c′ .op q) o k → Side (c′ .now) order′ x′ q (c′ .asked q) (c′ .op q) o″ k″
@@ -85,7 +85,7 @@ module _ {n : ℕ} {x : Triple} {own : ℕ → types.Own} {c : Calls Stored} (s 
     side : Side (c .now) (s .order) x (p .0) (c .asked (p .0)) (c .op (p .0)) (own (p .0)) (s .seen (p .0))
     side = s .sides (p .0) l
 
-    call-at : {place : Place} → own (p .0) .place ≡ place → OpenAt p (c .asked (p .0)) (c .now) (s .order) (c .op (p .0)) (s .seen (p .0)) place
+    pub call-at : {place : Place} → own (p .0) .place ≡ place → OpenAt p (c .asked (p .0)) (c .now) (s .order) (c .op (p .0)) (s .seen (p .0)) place
     call-at e = subst (OpenAt p (c .asked (p .0)) (c .now) (s .order) (c .op (p .0)) (s .seen (p .0))) e (side .call)
 
     alone : Aside noneStored 0 (c .now) (s .order) (s .order) (p .0)
@@ -167,7 +167,7 @@ module _ {n : ℕ} {x : Triple} {own : ℕ → types.Own} {c : Calls Stored} (s 
     called-now o a e = λ i. record { asked = c .asked (p .0); decided = c .now; process = p .0; word = s .one (p .0) i; op = e i; answer = a }
 
     -- the word at the end of play answers p's store or check by the machine's test
-    word-test : Still (own (p .0) .place) → linked (endLink noneStored 0 (s .order) (p .0)) (wordsAfter (first noneStored) (s .order) 0 .count) ≡ allEqual x (own (p .0))
+    pub word-test : Still (own (p .0) .place) → linked (endLink noneStored 0 (s .order) (p .0)) (wordsAfter (first noneStored) (s .order) 0 .count) ≡ allEqual x (own (p .0))
     word-test still =
         ap (linked (endLink noneStored 0 (s .order) (p .0))) (good-count 0 (s .good))
         ∙ ap (λ (k : Link). linked k (top (s .order))) (side .link still)

@@ -9,3 +9,5 @@ pub mod Start
 pub mod Theorems
 pub mod Side
 pub mod Join
+pub mod Entries
+pub mod Demand3

@@ -24,7 +24,7 @@ names-not e = false≢true (ap names e)
     names Nobody = false
     names (Names b) = true
 
-holds-not : {w : Triple} → Nothing ≡ Holds w → ⊥
+pub holds-not : {w : Triple} → Nothing ≡ Holds w → ⊥
 holds-not e = false≢true (ap holds e)
   where
     holds : Kept → Bool
