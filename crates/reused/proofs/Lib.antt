@@ -6,3 +6,5 @@ pub mod SoundKept
 pub mod RunLaws
 pub mod PartsOfRun
 pub mod Refusals
+pub mod Reached
+pub mod Numbers

@@ -7,3 +7,5 @@ pub mod Parts
 pub mod Run
 pub mod Frame
 pub mod Forms
+pub mod Registers
+pub mod Numbers
