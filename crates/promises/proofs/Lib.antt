@@ -2,6 +2,7 @@ pub mod Same
 pub mod Numbers
 pub mod Step
 pub mod Machine
+pub mod Reused
 pub mod Schedule
 pub mod Log
 pub mod Text

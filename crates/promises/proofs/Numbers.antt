@@ -6,6 +6,7 @@ use Rattle.numbers.proofs.both
 use Rattle.numbers.proofs.either
 use Rattle.numbers.proofs.first_found
 use Rattle.numbers.proofs.in_range
+use Rattle.numbers.proofs.n_in_range
 use Rattle.numbers.proofs.number_unless
 use Rattle.numbers.proofs.range_number
 use Rattle.numbers.proofs.wide
@@ -19,6 +20,9 @@ module _ {M : Type 1} where
 
   pub in-range-determined : Determined M in_range.ended in_range.clauses in_range.spec
   in-range-determined = (λ 𝓤 H A mem run. refl, λ κs a k l. (same-result k l (k .met) (l .met), refl))
+
+  pub n-in-range-determined : Determined M n_in_range.ended n_in_range.clauses n_in_range.spec
+  n-in-range-determined = (λ 𝓤 H A mem run. refl, λ κs a k l. (same-result k l (k .met) (l .met), refl))
 
   pub number-unless-determined : Determined M number_unless.ended number_unless.clauses number_unless.spec
   number-unless-determined = (λ 𝓤 H A mem run. refl, λ κs a k l. (same-result k l (k .met) (l .met), refl))

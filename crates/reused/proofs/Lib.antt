@@ -8,3 +8,4 @@ pub mod PartsOfRun
 pub mod Refusals
 pub mod Reached
 pub mod Numbers
+pub mod Worked

@@ -9,3 +9,4 @@ pub mod Frame
 pub mod Forms
 pub mod Registers
 pub mod Numbers
+pub mod Table

@@ -15,7 +15,7 @@ use numbers::both;
 use numbers::n_in_range;
 
 // N and M are in range.
-pub fn sizes_are_sound(n: usize, m: u64) -> bool
+fn sizes_are_sound(n: usize, m: u64) -> bool
     ensures { λ r. ⌜ r ≡ soundSizes n m ⌝ }
 {
     if n_in_range(n) {
@@ -25,7 +25,7 @@ pub fn sizes_are_sound(n: usize, m: u64) -> bool
     }
 }
 
-pub fn triple_is_sound(n: usize, m: u64, w: Triple) -> bool
+fn triple_is_sound(n: usize, m: u64, w: Triple) -> bool
     ensures { λ r. ⌜ r ≡ soundTriple n m w ⌝ }
 {
     let t = w.tag.0;
@@ -83,7 +83,7 @@ fn load_is_sound(old: Kept, place: Place) -> bool
     }
 }
 
-pub fn row_is_sound(n: usize, m: u64, own: Own) -> bool
+fn row_is_sound(n: usize, m: u64, own: Own) -> bool
     ensures { λ r. ⌜ r ≡ soundRow n m own ⌝ }
 {
     let named = own.named;
