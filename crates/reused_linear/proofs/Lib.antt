@@ -11,3 +11,4 @@ pub mod Side
 pub mod Join
 pub mod Entries
 pub mod Demand3
+pub mod Silly

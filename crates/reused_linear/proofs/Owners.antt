@@ -44,7 +44,11 @@ storeOwner v = record { tag = v .tag; start = v .start; search = v .search; more
 
 module _ {N D M : ℕ} (sizes : Sizes N D M) where
   pub some-tags : 1 ≤ D
-  some-tags = omega (arith, sizes .one, sizes .interval)
+  some-tags = go N refl
+    where
+      go : (n : ℕ) → N ≡ n → 1 ≤ D
+      go zero e = absurd (omega (arith, e, sizes .one))
+      go (suc n) e = omega (arith, rw e at (sizes .interval))
 
   module _ {v : Owner} {s : Safe} {h : List ℕ} (n : Nums N D M v s h) where
     -- the next tag is one of the safe interval; the next start is behind it; there is room for one more interval
