@@ -93,6 +93,10 @@ triple tag process bit = record { tag = record { 0 = tag }; process = record { 0
 abbrev pub tagsOfPairs : ℕ → ℕ → List (List Line) → List ℕ
 tagsOfPairs n m runs = map (λ lines. xAfter n m lines .tag .0) runs
 
+abbrev pub concat : List (List Line) → List Line
+concat [] = []
+concat (ls ∷ more) = ls ++ concat more
+
 abbrev pub pairs : ℕ → List Line
 pairs zero = []
 pairs (suc k) = pair ++ pairs k
@@ -100,6 +104,23 @@ pairs (suc k) = pair ++ pairs k
 -- N 2, M 60: D is 10. Process 0 stores tag 1; process 1 loads it, and holds it announced.
 abbrev pub held : List Line
 held = pair ++ LL 1 0 false
+
+-- Process 0 stores on while processes 1 and 2 are slow with their loads.
+abbrev pub slowReaders : List Line
+slowReaders =
+    concat
+    ((LL 0 0 false ++ (requestTaken 1 Load ∷ stepTaken 1 1 ∷ SC 0 false))
+    ∷ pairs 6
+    ∷ (LL 0 0 false ++ (stepTaken 1 2 ∷ answersLL 1 0 false ∷ requestTaken 2 Load ∷ stepTaken 2 1 ∷ SC 0 false))
+    ∷ pairs 5
+    ∷ (LL 0 0 false ++ (stepTaken 2 2 ∷ answersLL 2 0 false ∷ requestTaken 2 Load ∷ stepTaken 2 1 ∷ SC 0 false))
+    ∷ pairs 5
+    ∷ (LL 0 0 false ++ (requestTaken 1 Load ∷ stepTaken 1 1 ∷ SC 0 false))
+    ∷ pairs 10
+    ∷ (LL 0 0 false ++ (requestTaken 0 (Store false) ∷ changesX 0 ∷ stepTaken 1 2 ∷ stepTaken 2 2 ∷ doneSC 0 ∷ []))
+    ∷ pairs 10
+    ∷ VLno 0
+    ∷ [])
 
 -- the start is taken, or turned away with this number
 abbrev pub Taken : ℕ → ℕ → Type 0
@@ -130,6 +151,12 @@ pub record Runs : Type 0 where
   pub H-before : choiceIn (rowAfter 2 60 (held ++ pairs 10) 0) ≡ 51 ∷ 0 ∷ 1 ∷ []
   pub H-after : choiceIn (rowAfter 2 60 (held ++ pairs 11) 0) ≡ 52 ∷ 10 ∷ 0 ∷ []
   pub H-else : choiceIn (rowAfter 2 60 (pairs 12) 0) ≡ 0 ∷ 10 ∷ 0 ∷ []
+  -- Process 1 has read X, and not announced it; by thirteen stores of process 0 the start's tag, process and bit stand in X once more. The load cannot
+  -- tell that from a word that nobody stored into, and need not: it takes effect at its last step, and its process is linked.
+  pub I : Right 2 60 (requestTaken 1 Load ∷ stepTaken 1 1 ∷ (pairs 13 ++ (stepTaken 1 2 ∷ answersLL 1 0 false ∷ VLyes 1)))
+  -- N 3, M 168: D is 21. Process 0 stores, and its check without a new load says no. With figure 10's interval closed, as it is printed, two slow readers
+  -- make seven jumps in one search; the interval is used up, the last two stores have one tag, and this check says yes.
+  pub J : Right 3 168 slowReaders
   -- the edges of N and M
   pub least : Taken 1 12
   pub most : Taken 16 4294967296
