@@ -2,7 +2,7 @@
 use mathlib.Core.Path.{_≡_, refl}
 use mathlib.Core.Bool.{Bool, true, false, cond}
 use lib.Dec.{ltb}
-use Rattle.reused.specs.Types.{Process, Own, Place, Idle, Load1, Load2, Load3, Store1, Store2, Check1, Kind, Ask, Step, Request, Outcome, Taken, NotDone, Yes, No, NoProcess, CallOpen, Unsound, Requested, Stepped, State, Answer}
+use Rattle.reused.specs.Types.{Process, Own, Place, Idle, Load1, Load2, Load3, Store1, Store2, Check1, Kind, Ask, Step, Request, Outcome, Taken, NotDone, Yes, No, NoProcess, CallOpen, Unsound, Requested, State, Answer}
 use Rattle.reused.specs.Steps.{allEqual, at, goesOn, answered, stepAt, idle, firstPlace, toldOf}
 use Rattle.reused.specs.State.{sound, rowAt}
 use Rattle.reused.specs.Called.{lookedAt, refused, entered, called}

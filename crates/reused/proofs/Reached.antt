@@ -3,13 +3,13 @@ use Prim.Native.Nat.{ℕ, _+_, _<_}
 use mathlib.Core.Path.{_≡_, refl, sym, ap, subst, subst₂, _∙_}
 use mathlib.Core.Logic.{_≢_, ⊎-elim}
 use mathlib.Core.Bool.{Bool, true, false, cond}
-use mathlib.Core.List.{List, [], _∷_, List·Memᴰ, List·Memᴰ·head, List·Memᴰ·cases-cons, List·Memᴰ·not-nil}
+use mathlib.Core.List.{[], _∷_, List·Memᴰ, List·Memᴰ·head, List·Memᴰ·cases-cons, List·Memᴰ·not-nil}
 use native.Mathlib.Omega.{arith}
 use native.Mathlib.Decide.{ℕ-discrete}
 use lib.Dec.{ltb}
 use lib.ListN.{length}
 use borrow.Author.Tests.{ltb-true}
-use Rattle.reused.specs.Types.{Process, Triple, Named, Nobody, Names, Own, Stepped, Place, Idle, Load1, Load2, Load3, Store1, Store2, Check1, Holds, NotDone, Yes, No, Step, Entry, NoProcess, State, Answer}
+use Rattle.reused.specs.Types.{Process, Triple, Named, Nobody, Names, Own, Stepped, Place, Idle, Load1, Load2, Load3, Store1, Store2, Check1, NotDone, Step, Entry, NoProcess, State, Answer}
 use Rattle.reused.specs.Steps.{allEqual, at, goesOn, answered, hits, hit, passed, renewed, chosen, stepAt, stepOf}
 use Rattle.reused.specs.State.{rowAt, firstTriple}
 use Rattle.reused.specs.Called.{lookedAt, withEntry, answerWith, refused, entered, called}

@@ -12,11 +12,12 @@ use Rattle.reused.specs.Steps.{allEqual, at, stepAt, idle, firstPlace, r
 use Rattle.reused.specs.State.{rowAt, firstState}
 use Rattle.reused.specs.Called.{lookedAt, partsAfter, refused, entered, called}
 use Rattle.reused.specs.Frame.{Ready}
-use Rattle.reused.specs.Run.{EntryNote, turnedAway, played, notes}
+use Rattle.reused.specs.Run.{EntryNote, turnedAway, played, after, notes}
+use Rattle.reused.specs.EveryRun.{EveryRun}
 use Rattle.reused.proofs.Tests.{either-way}
 use Rattle.reused.proofs.Untouched.{by-call, left}
 use Rattle.reused.proofs.Writers.{all-kept}
-use Rattle.reused.proofs.RunLaws.{ready-start, ready-played, played-ready}
+use Rattle.reused.proofs.RunLaws.{ready-start, ready-played, ready-after, played-ready, size-kept, above-kept-after}
 
 -- a request that is taken, and one that is not
 abbrev taken : Own → Request → Requested
@@ -112,3 +113,15 @@ notes-not-15 st (e ∷ es) h w m =
 -- No run from a start meets 15.
 pub never-unsound : (n m : ℕ) → sizesNumber n m ≡ 0 → (es : List Entry) (w : EntryNote) → List·Memᴰ w (notes (firstState n m) es) → w .outcome ≢ 15
 never-unsound n m e es w i = notes-not-15 (firstState n m) es (ready-start n m e) w i
+
+-- What holds of every run from a start.
+pub every-run : (n m : ℕ) → sizesNumber n m ≡ 0 → (es : List Entry) → EveryRun n m es
+every-run n m fine es =
+    record {
+      ready = ready-after (firstState n m) es (ready-start n m fine);
+      n-same = size-kept (firstState n m) es .0;
+      m-same = size-kept (firstState n m) es .1;
+      never-15 = never-unsound n m fine es;
+      above-same = above-kept-after (firstState n m) es;
+      refused-same = λ e. refusal-same (after (firstState n m) es) (e .process) (e .kind);
+    }

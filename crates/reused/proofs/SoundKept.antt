@@ -8,9 +8,9 @@ use lib.Dec.{ltb}
 use lib.ListN.{length, getD, replicate, getD-replicate}
 use borrow.Author.Tests.{lt-ltb, ltb-true}
 use Rattle.reused.specs.Types.{Process, Triple, Kept, Nothing, Holds, Named, Own, Place, Idle, Load1, Load2, Load3, Store1, Store2, Check1, Request, Load, Store, Check, Taken, CallOpen, Requested, Stepped, State, Kind, Ask, Step}
-use Rattle.reused.specs.Circle.{intervalOf, sizesNumber, ahead}
-use Rattle.reused.specs.Steps.{allEqual, at, announcedOf, hits, hit, passed, renewed, withChoice, chosen, stepAt, idle, firstPlace, requestOf}
-use Rattle.reused.specs.State.{soundTriple, soundKept, soundNamed, soundLoad, holdsAny, rowAt, noRow, firstRow, firstState}
+use Rattle.reused.specs.Circle.{intervalOf, sizesNumber}
+use Rattle.reused.specs.Steps.{allEqual, at, announcedOf, hits, passed, renewed, withChoice, chosen, stepAt, idle, firstPlace, requestOf}
+use Rattle.reused.specs.State.{soundTriple, soundKept, soundNamed, soundLoad, rowAt, noRow, firstRow, firstState}
 use Rattle.reused.specs.Called.{partsAfter, entered, called}
 use Rattle.reused.proofs.Tests.{and-both, either-way}
 use Rattle.reused.proofs.Soundness.{Sizes, SoundOwn, Sound, sizes-of, sizes-fine, sizes, interval-least, circle-least, circle-some, ahead-below}

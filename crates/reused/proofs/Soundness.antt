@@ -7,7 +7,7 @@ use native.Mathlib.Omega.{arith}
 use lib.Dec.{leb, ltb}
 use mir.Syntax.{w64}
 use mir.Val.{Fits}
-use borrow.Author.Tests.{ltb-true, leb-true, lt-ltb, le-leb}
+use borrow.Author.Tests.{ltb-true, leb-true, lt-ltb}
 use Rattle.numbers.specs.Numbers.{inRangeN, allBelow, numberUnless}
 use Rattle.numbers.proofs.Below.{all-at, all-intro}
 use Rattle.numbers.proofs.First.{found-both, unless-fine}

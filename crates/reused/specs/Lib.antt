@@ -10,3 +10,4 @@ pub mod Forms
 pub mod Registers
 pub mod Numbers
 pub mod Table
+pub mod EveryRun

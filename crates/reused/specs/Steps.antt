@@ -1,9 +1,9 @@
 -- Document 02, P9: each step, a request, and the number of each outcome. A step of process p sees X, p's own row and, where it chooses a tag, one
 -- place of A; it says what it leaves of X and of p's row.
 use Prim.Native.Nat.{ℕ, _+_}
-use mathlib.Core.Bool.{Bool, true, false, _&&_, cond, not}
+use mathlib.Core.Bool.{Bool, false, _&&_, cond, not}
 use lib.Dec.{eqb, ltb}
-use Rattle.reused.specs.Types.{Process, Point, Triple, Kept, Nothing, Holds, Announced, Named, Nobody, Names, Place, Idle, Load1, Load2, Load3, Store1, Store2, Check1, Own, Stored, Outcome, Taken, GoesOn, Value, Done, NotDone, Yes, No, NoProcess, CallOpen, NoCall, Unsound, Request, Load, Store, Check, Requested, Stepped, Told}
+use Rattle.reused.specs.Types.{Process, Triple, Kept, Nothing, Holds, Named, Nobody, Names, Place, Idle, Load1, Load2, Load3, Store1, Store2, Check1, Own, Stored, Outcome, Taken, GoesOn, Value, Done, NotDone, Yes, No, NoProcess, CallOpen, NoCall, Unsound, Request, Load, Store, Check, Requested, Stepped, Told}
 use Rattle.reused.specs.Circle.{intervalOf, ahead, arc}
 
 -- "X and the kept values are [tag, process, bit]": equal if all three are

@@ -4,7 +4,7 @@ use Prim.Native.Nat.{ℕ, zero, suc}
 use mathlib.Core.Path.{_≡_}
 use mathlib.Core.Bool.{Bool, true, false}
 use mathlib.Core.List.{List, [], _∷_, _++_, map}
-use Rattle.reused.specs.Types.{Triple, Own, Entry, Kind, Ask, Step, Request, Load, Store, Check, Stored, Started}
+use Rattle.reused.specs.Types.{Triple, Own, Entry, Kind, Ask, Step, Request, Load, Store, Check, Stored}
 use Rattle.reused.specs.Steps.{noneStored}
 use Rattle.reused.specs.State.{rowAt, firstState, zeroState, startOf}
 use Rattle.reused.specs.Run.{EntryNote, after, notes}
