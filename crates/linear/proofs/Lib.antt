@@ -1,5 +1,5 @@
 -- Demand 3 for every run of the machine. Which file says what, bottom up; the facts on the machine (to Cases) and the theorems on the
--- word (crate word) meet only in Side, Join and Simulated.
+-- word (crate word) meet only in Known, Side, Join and Simulated.
 --     Agree         the definitions of the calls at document 01's runs
 --     Silly         logs that have to fall
 --     Lift          old numbers as natural numbers; the only place that opens step 3's test (guard-low, guard-high)
@@ -12,10 +12,10 @@
 --     Kept          every step keeps the invariants: the frame, the calm steps, and 7, 8, 9, 10
 --     Cases         what an entry can come to, case by case (Cases, by-cases)
 --     Noted         an entry's record by its outcome, and the item that it tells
+--     Known         own steps and replies: the second induction, by the stage at each place (stageOf)
 --     Side          the simulation relation (Sim), and how it goes on for those that take no step
 --     Join          how it goes on by a request, a quiet step, a load, a call at the end, a change
 --     Simulated     it holds at the start and goes on by every entry
---     Known         own steps and replies: the second induction
 --     Demand3       the theorem: demand-3; with it when X changes (changes-decide), what each record says of the word (true-of-word), and the
 --                   word at the end (same-word)
 --     Facts         the old number is never below k - 2; at step 5 X is not the kept tag

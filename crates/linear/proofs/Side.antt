@@ -4,20 +4,17 @@
 use Prim.Native.Nat.{ℕ, suc, _<_}
 use mathlib.Core.Path.{_≡_, refl, sym, ap, _∙_, subst, subst₂}
 use mathlib.Core.Bool.{false}
-use mathlib.Core.Option.{none, some}
-use mathlib.Core.Logic.{_≢_, _⊎_, inl, inr}
-use mathlib.Core.List.{List, [], _∷_, _++_}
+use mathlib.Core.Logic.{_⊎_, inl, inr}
+use mathlib.Core.List.{List}
 use native.Mathlib.Omega.{arith}
 use borrow.Author.Tests.{ne-eqb}
 use Rattle.linear.specs.Types.{Row, Record, Place, Idle, Load1, Load2, Load3, Load5, Store7, Store8, Store9, Store10, Check14}
 use Rattle.linear.proofs.View.{View, rowAt, recordAt}
-use Rattle.word.specs.Word.{Link, at, Op, load, store, check, linked, first, Call, wordsAfter}
+use Rattle.word.specs.Word.{Link, at, Op, load, store, check, linked, Call}
 use Rattle.word.specs.Word as word
-use Rattle.word.proofs.Play.{after-snoc}
-use Rattle.word.proofs.Changes.{writes, total, valueAfter, total-quiet, total-snoc}
-use Rattle.word.proofs.Relink.{NoLoad, link-kept, link-others}
-use Rattle.word.proofs.Insert.{loadCall, ins, total-ins}
-use Rattle.word.proofs.Good.{Good, Own, Late, MayLoad, own-snoc, own-ins, late-snoc, late-ins, good-load-after}
+use Rattle.word.proofs.Changes.{total, valueAfter}
+use Rattle.word.proofs.Good.{Good}
+use Rattle.word.proofs.Aside.{Undecided, LateFor, endLink, Aside, undecided-on, loading-on}
 use Rattle.linear.proofs.History.{Change, At}
 use Rattle.linear.proofs.Invariant.{slotOf, Inv}
 
@@ -43,36 +40,22 @@ LinkAt Store9 t l sn = LinkOk t l sn
 LinkAt Store10 t l sn = LinkOk t l sn
 LinkAt Check14 t l sn = LinkOk t l sn
 
--- q's call, requested at t, asks o and is not decided yet
-pub record Undecided (q t now : ℕ) (order : List (Call ℕ)) (op o : Op ℕ) : Type 0 where
-  pub kind : op ≡ o
-  pub before : t < now
-  pub own : Own q t order
-
--- all that stands from the change after the one seen on was decided after t
-abbrev pub LateFor : ℕ → List (Call ℕ) → Link → Type 0
-LateFor t order sn = (i : ℕ) → sn ≡ at i → Late 0 i t order
-
 -- The open call, by place. A store's value stands in the slot of the next number from step 7 on. From step 8 on the store is decided.
 abbrev pub OpenAt : ℕ → ℕ → ℕ → List (Call ℕ) → Op ℕ → Row → ℕ → Link → Place → Type 0
 OpenAt q t now order op r next sn Idle = Unit {0}
 OpenAt q t now order op r next sn Load1 = Undecided q t now order op load
-OpenAt q t now order op r next sn Load2 = Undecided q t now order op load × LateFor t order sn
-OpenAt q t now order op r next sn (Load3 v) = Undecided q t now order op load × LateFor t order sn
-OpenAt q t now order op r next sn Load5 = Undecided q t now order op load × LateFor t order sn
+OpenAt q t now order op r next sn Load2 = Undecided q t now order op load × LateFor 0 t order sn
+OpenAt q t now order op r next sn (Load3 v) = Undecided q t now order op load × LateFor 0 t order sn
+OpenAt q t now order op r next sn Load5 = Undecided q t now order op load × LateFor 0 t order sn
 OpenAt q t now order op r next sn (Store7 v) = Undecided q t now order op (store v)
 OpenAt q t now order op r next sn Store8 = Undecided q t now order op (store (slotOf r next))
 OpenAt q t now order op r next sn Store9 = Unit {0}
 OpenAt q t now order op r next sn Store10 = Unit {0}
 OpenAt q t now order op r next sn Check14 = Undecided q t now order op check
 
--- q's link at the end of play
-abbrev pub endLink : ℕ → List (Call ℕ) → ℕ → Link
-endLink v order q = wordsAfter (first v) order 0 .link q
-
 -- what is kept of process q
 pub record Side (v now : ℕ) (order : List (Call ℕ)) (q t : ℕ) (op : Op ℕ) (r : Row) (next : ℕ) (place : Place) (sn : Link) : Type 0 where
-  pub link : LinkAt place (total 0 order) (endLink v order q) sn
+  pub link : LinkAt place (total 0 order) (endLink v 0 order q) sn
   pub call : OpenAt q t now order op r next sn place
 
 abbrev pub SideAt : ℕ → ℕ → List (Call ℕ) → ℕ → ℕ → Op ℕ → Row → Record → Link → Type 0
@@ -90,87 +73,40 @@ pub record Sim (v : ℕ) (st : View) (now : ℕ) (asked : ℕ → ℕ) (op : ℕ
   pub vals : (i q k u : ℕ) → At h i q k u → valueAfter 0 i v order ≡ u
   pub sides : (q : ℕ) → q < st .n → SideAt v now order q (asked q) (op q) (rowAt st q) (recordAt st q) (seen q)
 
--- What a process q that takes no step asks of the new order.
-pub record Way (v now : ℕ) (order order′ : List (Call ℕ)) (q : ℕ) : Type 0 where
-  pub own : (t : ℕ) → Own q t order → Own q t order′
-  pub late : (i t : ℕ) → t < now → Late 0 i t order → Late 0 i t order′
-  pub link : (sn : Link) → LinkOk (total 0 order) (endLink v order q) sn → LinkOk (total 0 order′) (endLink v order′ q) sn
+-- an order that has as many changes as it had, or one more
+abbrev pub Longer : ℕ → ℕ → Type 0
+Longer t t′ = (t′ ≡ t) ⊎ (t′ ≡ suc t)
 
-pub way-same : (v now : ℕ) (order : List (Call ℕ)) (q : ℕ) → Way v now order order q
-way-same v now order q = record { own = λ t h. h; late = λ i t l h. h; link = λ sn h. h }
-
--- a store or a check at the end leaves all links
-pub link-snoc : (v : ℕ) (order : List (Call ℕ)) (c : Call ℕ) (q : ℕ) → NoLoad (c .op) → endLink v (order ++ c ∷ []) q ≡ endLink v order q
-link-snoc v order c q noload =
-    ap (λ ws. ws 0 .link q) (after-snoc (first v) order c) ∙ ap (λ (k : ℕ → Link). k q) (link-kept (wordsAfter (first v) order) c 0 noload)
-
--- a call c of another process, decided now, at the end: it sets no link of q
-pub way-quiet : (v now : ℕ) (order : List (Call ℕ)) (c : Call ℕ) (q : ℕ) → c .decided ≡ now → c .process ≢ q → NoLoad (c .op) → writes 0 c ≡ none
-    → Way v now order (order ++ c ∷ []) q
-way-quiet v now order c q decided ne noload quiet =
-    record {
-      own = λ t h. own-snoc q t order c ne h;
-      late = λ i t l h. late-snoc 0 i t order c (omega arith) h;
-      link = λ sn h. subst₂ (λ (t : ℕ) (k : Link). LinkOk t k sn) (sym (total-quiet 0 order c quiet)) (sym (link-snoc v order c q noload)) h;
-    }
-
--- after a change everybody is behind it
-pub link-behind : (t : ℕ) (l sn : Link) → LinkOk t l sn → LinkOk (suc t) l sn
-link-behind t l sn (inl (e, f)) = inr (subst (Behind (suc t)) (sym e) (omega arith), subst (Behind (suc t)) (sym f) (omega arith))
-link-behind t l sn (inr (b, c)) = inr (up l b, up sn c)
+-- [34] stays where the link does: after a change everybody is behind it.
+pub link-on : {t t′ : ℕ} {l l′ : Link} (sn : Link) → l′ ≡ l → Longer t t′ → LinkOk t l sn → LinkOk t′ l′ sn
+link-on {t} {t′} {l} sn same (inl e) ok = subst₂ (λ (t : ℕ) (l : Link). LinkOk t l sn) (sym e) (sym same) ok
+link-on {t} {t′} {l} sn same (inr e) ok = subst₂ (λ (t : ℕ) (l : Link). LinkOk t l sn) (sym e) (sym same) (behind ok)
   where
     up : (l : Link) → Behind t l → Behind (suc t) l
     up word.none b = tt
     up (at m) b = omega arith
 
-pub way-done : (v now : ℕ) (order : List (Call ℕ)) (c : Call ℕ) (q : ℕ) {u : ℕ} → c .decided ≡ now → c .process ≢ q → NoLoad (c .op) → writes 0 c ≡ some u
-    → Way v now order (order ++ c ∷ []) q
-way-done v now order c q decided ne noload new =
-    record {
-      own = λ t h. own-snoc q t order c ne h;
-      late = λ i t l h. late-snoc 0 i t order c (omega arith) h;
-      link = λ sn h.
-          subst₂ (λ (t : ℕ) (k : Link). LinkOk t k sn) (sym (total-snoc 0 order c new)) (sym (link-snoc v order c q noload))
-          (link-behind (total 0 order) (endLink v order q) sn h);
-    }
+    behind : LinkOk t l sn → LinkOk (suc t) l sn
+    behind (inl (e, f)) = inr (subst (Behind (suc t)) (sym e) (omega arith), subst (Behind (suc t)) (sym f) (omega arith))
+    behind (inr (b, c)) = inr (up l b, up sn c)
 
--- a load of another process r, put in before change n + 1: it sets r's link only
-pub way-load : (v now : ℕ) (order played : List (Call ℕ)) (t r n q : ℕ) → Good v now order played → MayLoad now t r 0 n order → r ≢ q
-    → Way v now order (ins 0 n (loadCall t now r 0 (valueAfter 0 n v order)) order) q
-way-load v now order played t r n q good may ne =
-    record {
-      own = λ s h. own-ins 0 n q s x order ne h;
-      late = λ i s l h. late-ins 0 n 0 i s x order refl l h;
-      link = λ sn h.
-          subst (λ (k : ℕ). LinkOk k (endLink v (ins 0 n x order) q) sn) (sym (total-ins 0 n 0 x order refl))
-          (subst (λ (k : Link). LinkOk (total 0 order) k sn)
-          (sym (ap (λ ws. ws 0 .link q) (good-load-after t r 0 n good may) ∙ link-others r 0 n (wordsAfter (first v) order) 0 q (λ e. ne (sym e))))
-          h);
-    }
-  where
-    x : Call ℕ
-    x = loadCall t now r 0 (valueAfter 0 n v order)
-
-module _ {v now : ℕ} {order order′ : List (Call ℕ)} {q : ℕ} (way : Way v now order order′ q) where
-  pub undecided-on : {t : ℕ} {op o : Op ℕ} → Undecided q t now order op o → Undecided q t (suc now) order′ op o
-  undecided-on {t} u = record { kind = u .kind; before = omega (arith, u .before); own = way .own t (u .own) }
-
-  pub loading-on : {t : ℕ} {op : Op ℕ} {sn : Link} → Undecided q t now order op load × LateFor t order sn → Undecided q t (suc now) order′ op load × LateFor t order′ sn
-  loading-on {t} u = (undecided-on (u .0), λ i e. way .late i t (u .0 .before) (u .1 i e))
+module _ {v now : ℕ} {order order′ : List (Call ℕ)} {q : ℕ} (aside : Aside v 0 now order order′ q) (longer : Longer (total 0 order) (total 0 order′)) where
+  ok-on : (sn : Link) → LinkOk (total 0 order) (endLink v 0 order q) sn → LinkOk (total 0 order′) (endLink v 0 order′ q) sn
+  ok-on sn ok = link-on sn (aside .link) longer ok
 
   -- The call and the link of a process that takes no step.
   pub side-on : (t : ℕ) (op : Op ℕ) (r : Row) (next : ℕ) (place : Place) (sn : Link)
       → Side v now order q t op r next place sn → Side v (suc now) order′ q t op r next place sn
-  side-on t op r next Idle sn s = record { link = way .link sn (s .link); call = tt }
-  side-on t op r next Load1 sn s = record { link = way .link sn (s .link); call = undecided-on (s .call) }
-  side-on t op r next Load2 sn s = record { link = tt; call = loading-on (s .call) }
-  side-on t op r next (Load3 u) sn s = record { link = tt; call = loading-on (s .call) }
-  side-on t op r next Load5 sn s = record { link = tt; call = loading-on (s .call) }
-  side-on t op r next (Store7 u) sn s = record { link = way .link sn (s .link); call = undecided-on (s .call) }
-  side-on t op r next Store8 sn s = record { link = way .link sn (s .link); call = undecided-on (s .call) }
-  side-on t op r next Store9 sn s = record { link = way .link sn (s .link); call = tt }
-  side-on t op r next Store10 sn s = record { link = way .link sn (s .link); call = tt }
-  side-on t op r next Check14 sn s = record { link = way .link sn (s .link); call = undecided-on (s .call) }
+  side-on t op r next Idle sn s = record { link = ok-on sn (s .link); call = tt }
+  side-on t op r next Load1 sn s = record { link = ok-on sn (s .link); call = undecided-on aside (s .call) }
+  side-on t op r next Load2 sn s = record { link = tt; call = loading-on aside (s .call) }
+  side-on t op r next (Load3 u) sn s = record { link = tt; call = loading-on aside (s .call) }
+  side-on t op r next Load5 sn s = record { link = tt; call = loading-on aside (s .call) }
+  side-on t op r next (Store7 u) sn s = record { link = ok-on sn (s .link); call = undecided-on aside (s .call) }
+  side-on t op r next Store8 sn s = record { link = ok-on sn (s .link); call = undecided-on aside (s .call) }
+  side-on t op r next Store9 sn s = record { link = ok-on sn (s .link); call = tt }
+  side-on t op r next Store10 sn s = record { link = ok-on sn (s .link); call = tt }
+  side-on t op r next Check14 sn s = record { link = ok-on sn (s .link); call = undecided-on aside (s .call) }
 
 -- the word's test and the machine's test of a link that is well
 pub linked-same : (t : ℕ) (l sn : Link) → LinkOk t l sn → linked l t ≡ linked sn t

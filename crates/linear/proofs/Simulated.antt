@@ -26,6 +26,8 @@ use Rattle.word.specs.Calls.{Item, goes, away, Calls, isStore, noCalls, callBy,
 use Rattle.word.proofs.Put.{split, put-same, put-other}
 use Rattle.word.proofs.Changes.{total, valueAfter}
 use Rattle.word.proofs.Good.{good-start, good-count, late-new, Late}
+use Rattle.word.proofs.Stages.{decides-at}
+use Rattle.word.proofs.Aside.{LateFor, endLink, Aside, aside-same, undecided-on, loading-on}
 use Rattle.linear.specs.Demand3.{stepOfStore}
 use Rattle.linear.specs.TrueOfWord.{isLoad, wordOn, unchanged, markAt, SaysAt, TrueOfWord}
 use Rattle.linear.proofs.Lift.{guard-low}
@@ -36,11 +38,11 @@ use Rattle.linear.proofs.View.{View, viewOf}
 use Rattle.linear.proofs.Moved.{tag-below}
 use Rattle.linear.proofs.Kept.{one-at, seen-at, kept-calm, kept-1, kept-2, kept-3, kept-7, kept-8, kept-9, kept-10}
 use Rattle.linear.proofs.Start.{idle-start, firstChange, inv-start}
-use Rattle.linear.proofs.Side.{LinkOk, LateFor, endLink, Side, SideAt, Sim, way-same, undecided-on, loading-on, linked-same}
+use Rattle.linear.proofs.Side.{LinkOk, Side, SideAt, Sim, linked-same}
 use Rattle.linear.proofs.Join.{sim-tick, side-at, sim-quiet, sim-still, sim-request, sim-load, agree, sim-append, sim-done}
 use Rattle.linear.proofs.Cases.{Turned, Cases, idle-is, by-cases}
 use Rattle.linear.proofs.Noted.{entryOf, noteWith, came, item-away, away-plain}
-use Rattle.linear.proofs.Known.{KnownIn, known-at, decides-at, load-stores}
+use Rattle.linear.proofs.Known.{KnownIn, call-at, is-open}
 
 -- the calls, the word as the steps leave it, and that every call is on word 0
 pub record Simulated (v : ℕ) (st : State) (c : Calls ℕ) (m : Word ℕ) : Type 0 where
@@ -149,13 +151,13 @@ module _ {v : ℕ} {st : State} (c : Calls ℕ) (m : Word ℕ) (simulated : Simu
         → Sim v (viewOf st′) (suc (c .now)) (c .asked) (c .op) (c .played) (m .link) (m .count) (m .current) → Next Step st′ GoesOn false
     load-goes n o k sim =
         let later : eqb (c .steps (p .0)) 0 ≡ false = ne-eqb (c .steps (p .0)) 0 (λ z. omega (arith, k, z)) in
-        let quiet = decides-at c (p .0) (suc (suc n)) false (load-stores o) k in
+        let quiet = decides-at stepOfStore c (p .0) (suc (suc n)) false (ap isStore o) k in
         goes-on false m quiet (word-left false false (ap (λ (b : Bool). isLoad (c .op (p .0)) && b) later ∙ and-no (isLoad (c .op (p .0)))) quiet) sim (λ t. absurd (false≢true t))
 
     store-goes : {st′ : State} (n : ℕ) → (true && eqb n stepOfStore) ≡ false → isStore (c .op (p .0)) ≡ true → suc (c .steps (p .0)) ≡ n
         → Sim v (viewOf st′) (suc (c .now)) (c .asked) (c .op) (c .played) (m .link) (m .count) (m .current) → Next Step st′ GoesOn false
     store-goes n other o k sim =
-        let quiet = decides-at c (p .0) n true o k ∙ other in
+        let quiet = decides-at stepOfStore c (p .0) n true o k ∙ other in
         goes-on false m quiet (word-left false false (ap (λ (b : Bool). b && eqb (c .steps (p .0)) 0) (store-no-load (c .op (p .0)) o)) quiet) sim (λ t. absurd (false≢true t))
 
     -- X is the kept tag exactly if what was seen is the newest change
@@ -215,19 +217,19 @@ module _ {v : ℕ} {st : State} (c : Calls ℕ) (m : Word ℕ) (simulated : Simu
             record { mark = refl; byStep5 = λ two. absurd (omega (arith, two)); says = tt },
           );
           step-1 = λ e st′ x mv.
-              let o = known-at known (p .0) l e .0 in
-              let quiet = decides-at c (p .0) 1 false (load-stores (o .asks)) (o .counted) in
-              let begins = ap (λ (j : Op ℕ). isLoad j && eqb (c .steps (p .0)) 0) (o .asks) ∙ ap (λ (j : ℕ). eqb j 0) (none-yet (o .counted)) in
-              goes-on false (nextOf m (p .0) load) quiet (word-left true false begins quiet ∙ ap (nextOf m (p .0)) (o .asks))
+              let (o, asked, rest) = call-at st known (p .0) l e in
+              let quiet = decides-at stepOfStore c (p .0) 1 false (ap isStore asked) (o .counted) in
+              let begins = ap (λ (j : Op ℕ). isLoad j && eqb (c .steps (p .0)) 0) asked ∙ ap (λ (j : ℕ). eqb j 0) (none-yet (o .counted)) in
+              goes-on false (nextOf m (p .0) load) quiet (word-left true false begins quiet ∙ ap (nextOf m (p .0)) asked)
               (subst (λ (t : ℕ). Sim v (viewOf st′) (suc (c .now)) (c .asked) (c .op) (c .played) (put (p .0) (word.at t) (m .link)) (m .count) (m .current)) (s .count)
               (sim-quiet s (p .0) l (word.at (total 0 (s .order))) mv (kept-1 (viewOf st) (p .0) (s .inv) l e mv x)
-              (record { link = tt; call = (undecided-on (way-same v (c .now) (s .order) (p .0)) (side-at s (p .0) l e .call), first-seen) })))
+              (record { link = tt; call = (undecided-on alone (side-at s (p .0) l e .call), first-seen) })))
               (λ t. absurd (false≢true t));
           step-2 = λ e st′ x mv.
-              let o = known-at known (p .0) l e .0 in
-              load-goes 0 (o .asks) (o .counted)
+              let (o, asked, rest) = call-at st known (p .0) l e in
+              load-goes 0 asked (o .counted)
               (sim-still s (p .0) l mv (kept-2 (viewOf st) (p .0) (s .inv) l (tag-below st (p .0) ready l) e mv x)
-              (record { link = tt; call = loading-on (way-same v (c .now) (s .order) (p .0)) (side-at s (p .0) l e .call) }));
+              (record { link = tt; call = loading-on alone (side-at s (p .0) l e .call) }));
           step-3-answers = λ u e near st′ x mv.
               let (i, sn, f) = one-at (viewOf st) (p .0) (s .inv) l e .stage in
               let a = f (guard-low (rowAt st (recordAt st (p .0) .kept .process .0) .«old_number») (recordAt st (p .0) .kept .number .0) near) in (
@@ -244,11 +246,11 @@ module _ {v : ℕ} {st : State} (c : Calls ℕ) (m : Word ℕ) (simulated : Simu
                     (λ four. absurd (omega (arith, four, ap ownSteps e))) (newest-value i u sn (s .vals i _ _ u a)),
               );
           step-3-goes-on = λ u e far st′ x mv.
-              let o = known-at known (p .0) l e .0 in
-              load-goes 1 (o .asks) (o .counted)
+              let (o, asked, rest) = call-at st known (p .0) l e in
+              load-goes 1 asked (o .counted)
               (sim-still s (p .0) l mv
               (kept-3 (viewOf st) (p .0) (s .inv) l u (st .s .0) (tag-below st (p .0) ready l) (sure ready .each (recordAt st (p .0) .kept .process .0) (tag-below st (p .0) ready l) .old) e far mv x)
-              (record { link = tt; call = loading-on (way-same v (c .now) (s .order) (p .0)) (side-at s (p .0) l e .call) }));
+              (record { link = tt; call = loading-on alone (side-at s (p .0) l e .call) }));
           step-5 = λ e st′ x mv.
               let (i, sn, high) = one-at (viewOf st) (p .0) (s .inv) l e .stage in
               let (u, a) = seen-at (viewOf st) (p .0) (s .inv) l i sn in
@@ -265,18 +267,18 @@ module _ {v : ℕ} {st : State} (c : Calls ℕ) (m : Word ℕ) (simulated : Simu
                 load-reads st′ _ x (ap (λ (o : Record). o .kept) (mv .own)) (λ four. behind e) (λ t. absurd (false≢true (sym (tested (behind e)) ∙ t))),
               );
           step-7 = λ u e st′ x mv.
-              let o = known-at known (p .0) l e .0 in
-              let und = undecided-on (way-same v (c .now) (s .order) (p .0)) (side-at s (p .0) l e .call) in
-              store-goes 1 refl (o .asks) (o .counted)
+              let (o, asked, rest) = call-at st known (p .0) l e in
+              let und = undecided-on alone (side-at s (p .0) l e .call) in
+              store-goes 1 refl asked (o .counted)
               (sim-still s (p .0) l mv (kept-7 (viewOf st) (p .0) (s .inv) l u e mv x)
               (record {
                 link = side-at s (p .0) l e .link;
                 call = record { kind = und .kind ∙ ap store (sym (written u)); before = und .before; own = und .own };
               }));
           step-8-done = λ e same st′ x mv.
-              let o = known-at known (p .0) l e .0 in
-              let decided = decides-at c (p .0) 2 true (o .asks) (o .counted) in
-              let no-load = ap (λ (b : Bool). b && eqb (c .steps (p .0)) 0) (store-no-load (c .op (p .0)) (o .asks)) in
+              let (o, asked, rest) = call-at st known (p .0) l e in
+              let decided = decides-at stepOfStore c (p .0) 2 true asked (o .counted) in
+              let no-load = ap (λ (b : Bool). b && eqb (c .steps (p .0)) 0) (store-no-load (c .op (p .0)) asked) in
               let after-it = stored (slotOf (rowAt st (p .0)) (recordAt st (p .0) .next .0)) in
               goes-on true after-it decided
               (word-left false true no-load decided ∙ ap (nextOf m (p .0)) (side-at s (p .0) l e .call .kind) ∙ ap (λ (b : Bool). cond b after-it m) (tested same))
@@ -295,8 +297,8 @@ module _ {v : ℕ} {st : State} (c : Calls ℕ) (m : Word ℕ) (simulated : Simu
             record { mark = refl; byStep5 = λ two. absurd (omega (arith, two)); says = tested other },
           );
           step-9 = λ e st′ x mv.
-              let o = known-at known (p .0) l e .0 in
-              store-goes 3 refl (o .asks) (o .counted)
+              let (o, asked, rest) = call-at st known (p .0) l e in
+              store-goes 3 refl asked (o .counted)
               (sim-still s (p .0) l mv (kept-9 (viewOf st) (p .0) (s .inv) l e mv x) (record { link = side-at s (p .0) l e .link; call = tt }));
           step-10 = λ e st′ x mv. (
             record {
@@ -329,12 +331,15 @@ module _ {v : ℕ} {st : State} (c : Calls ℕ) (m : Word ℕ) (simulated : Simu
           );
         }
       where
+        alone : Aside v 0 (c .now) (s .order) (s .order) (p .0)
+        alone = aside-same v 0 (c .now) (s .order) (p .0)
+
         -- the word after a store of u that is done
         stored : ℕ → Word ℕ
         stored u = record { current = u; count = suc (m .count); link = m .link }
 
         -- from the newest change on nothing stands yet
-        first-seen : LateFor (c .asked (p .0)) (s .order) (word.at (total 0 (s .order)))
+        first-seen : LateFor 0 (c .asked (p .0)) (s .order) (word.at (total 0 (s .order)))
         first-seen i e =
             let same : total 0 (s .order) ≡ i = cc in
             subst (λ (j : ℕ). Late 0 j (c .asked (p .0)) (s .order)) same (late-new 0 (c .asked (p .0)) (s .order))
@@ -356,7 +361,7 @@ module _ {v : ℕ} {st : State} (c : Calls ℕ) (m : Word ℕ) (simulated : Simu
 pub same-link : {v : ℕ} {st : State} {c : Calls ℕ} {m : Word ℕ} (simulated : Simulated v st c m) → KnownIn st c → (q : ℕ) → q < st .n → c .opened q ≡ false
     → unchanged (wordsAfter (first v) (simulated .sim .order) 0) q ≡ unchanged m q
 same-link {v} {st} {c} {m} simulated known q l closed =
-    ap (linked (endLink v (s .order) q)) (good-count 0 (s .good)) ∙ linked-same (total 0 (s .order)) (endLink v (s .order) q) (m .link q) both ∙ ap (linked (m .link q)) (s .count)
+    ap (linked (endLink v 0 (s .order) q)) (good-count 0 (s .good)) ∙ linked-same (total 0 (s .order)) (endLink v 0 (s .order) q) (m .link q) both ∙ ap (linked (m .link q)) (s .count)
   where
     s : Sim v (viewOf st) (c .now) (c .asked) (c .op) (c .played) (m .link) (m .count) (m .current)
     s = simulated .sim
@@ -365,5 +370,5 @@ same-link {v} {st} {c} {m} simulated known q l closed =
     not-open true e = refl
     not-open false e = absurd (false≢true (sym e))
 
-    both : LinkOk (total 0 (s .order)) (endLink v (s .order) q) (m .link q)
-    both = side-at s q l (idle-is (recordAt st q .place) (not-open (idle (recordAt st q .place)) (sym (known .opens q l) ∙ closed))) .link
+    both : LinkOk (total 0 (s .order)) (endLink v 0 (s .order) q) (m .link q)
+    both = side-at s q l (idle-is (recordAt st q .place) (not-open (idle (recordAt st q .place)) (sym (is-open st known q l refl) ∙ closed))) .link

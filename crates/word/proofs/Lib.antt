@@ -11,16 +11,21 @@
 --     RealTime  "stands first" by places of the order (stands-first)
 --     Good      an order of the calls decided so far, and the three ways in which it goes on
 --     Told      replies and played calls, and how they go on; done-on: an item adds to the stores done exactly if it decides one
+--     Stages    steps and replies by the stage of each process's call (Stage, Known), and how they go on with each item
+--     Aside     a process that takes no step while the order goes on (Aside): its open call, and its link
 --     Ordered   an order and what is known of the replies make demand 3's OneOrder (one-order)
 --     Items     an entry that is turned away tells nothing (item-away)
 --     Decide    playing and real time decided by computing
 -- A machine's proof needs this of them:
 --     the order      good-start, good-tick, good-append, good-load; at the end one-order, with the Told of the replies
---     a request      own-new; for the calls of others after it own-snoc, own-ins
---     a load's step  late-new at its first; after it late-snoc, late-ins, late-later; they and `own` make the MayLoad of good-load
+--     the replies    the stage at each place of the machine; known-start; an entry by known-away, known-asks, known-goes, known-stored, known-done,
+--                    known-answers or known-answered, and known-put; decides-at says whether it decides a store; `told` is that Told
+--     the others     aside-same, aside-snoc, aside-load, and with them undecided-on, loading-on
+--     a request      own-new makes its Undecided
+--     a load's step  late-new at its first makes its LateFor; with late-later and `own` that makes the MayLoad of good-load
 --     totals         good-count, good-value; total-snoc, total-quiet, total-ins; value-snoc, value-new, value-ins
 --     what is quiet  writes-nothing, writes-other; what a store writes: writes-own
---     links          good-load-after with link-own, link-others, other-word; after-snoc with link-kept
+--     links          link-snoc, link-load; on other words good-load-after with other-word, after-snoc with link-kept
 pub mod Agree
 pub mod Aside
 pub mod Changes
@@ -36,5 +41,5 @@ pub mod Put
 pub mod RealTime
 pub mod Relink
 pub mod Silly
-pub mod Told
 pub mod Stages
+pub mod Told

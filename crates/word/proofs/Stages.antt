@@ -2,11 +2,12 @@
 -- answered. How that goes on with each item; no order, no words and no values in it. A machine says at which stage each of its places is.
 -- Assumes nothing.
 use Prim.Native.Nat.{ℕ, suc, _<_}
-use mathlib.Core.Path.{_≡_, refl, sym, ap, _∙_, subst}
-use mathlib.Core.Bool.{Bool, true, false, cond}
+use mathlib.Core.Path.{_≡_, refl, sym, ap, _∙_, fun-ext, subst}
+use mathlib.Core.Bool.{Bool, true, false, cond, _&&_}
 use mathlib.Core.Logic.{_≢_}
 use mathlib.Core.List.{List, [], _∷_, _++_, List·Memᴰ, List·Memᴰ·head, Memᴰ·append-left, Memᴰ·append-right}
 use native.Mathlib.Omega.{arith}
+use lib.Dec.{eqb}
 use Rattle.word.specs.Word.{Op, load, check, Answer, done, put, Call}
 use Rattle.word.specs.Calls.{asks, goes, answers, away, Reply, Calls, isStore, isDone, noCalls, callBy, replyBy, decides, goOn}
 use Rattle.word.proofs.Put.{split, put-same, put-other}
@@ -63,6 +64,16 @@ module _ {A : Type 0} where
   pub known-start : (n : ℕ) (stage : ℕ → Stage) → ((q : ℕ) → q < n → stage q ≡ shut) → Known n stage noCalls
   known-start n stage idle =
       record { told = told-start; opens = λ q l. ap isOpen (sym (idle q l)); each = λ q l. subst (KnownOf noCalls q) (sym (idle q l)) tt }
+
+  -- the stages by what p's is and what the others' are
+  pub known-put : {n p : ℕ} {s : Stage} {stage stage′ : ℕ → Stage} {c : Calls A} → stage′ p ≡ s → ((q : ℕ) → q ≢ p → stage′ q ≡ stage q) → Known n (put p s stage) c → Known n stage′ c
+  known-put {n} {p} {s} {stage} {stage′} {c} here others k =
+      subst (λ (f : ℕ → Stage). Known n f c)
+      (fun-ext (split (λ q. put p s stage q ≡ stage′ q) p (put-same p s stage ∙ sym here) (λ q ne. put-other p s stage q ne ∙ sym (others q ne)))) k
+
+  -- whether a step of a call that asks so and has taken so many steps decides a store
+  pub decides-at : (d : ℕ) (c : Calls A) (p rank : ℕ) (b : Bool) → isStore (c .op p) ≡ b → suc (c .steps p) ≡ rank → decides d c p ≡ (b && eqb rank d)
+  decides-at d c p rank b e f = rw (e, f)
 
   -- A process that takes no step: the calls played only grow, and new replies are not its own.
   at-on : (q t w n : ℕ) (op : Op A) (now : ℕ) (played played′ : List (Call A)) (replies replies′ : List (Reply A))
@@ -171,13 +182,23 @@ module _ {A : Type 0} where
       goes-by : {b : Bool} (s : Stage) → decides d c p ≡ b → Known n (put p s stage) (gone c p b) → Known n (put p s stage) (goOn d c (goes p))
       goes-by {b} s e k = subst (λ (t : Bool). Known n (put p s stage) (gone c p t)) (sym e) k
 
-      -- a step that goes on and decides nothing
+      -- a step that goes on and decides nothing, of a call that is not decided and of a store that is
+      goes-quiet : (s : Stage) → decides d c p ≡ false → c .opened p ≡ isOpen s
+          → KnownAt p (c .asked p) (c .word p) (put p (suc (c .steps p)) (c .steps) p) (c .op p) (suc (c .now)) (c .played) (c .replies) s → Known n (put p s stage) (goOn d c (goes p))
+      goes-quiet s no-store here mine =
+          goes-by s no-store
+          (known-on (gone c p false) s refl (λ q ne. refl) (λ q ne. refl) (λ q ne. refl) (λ q ne. refl) (put-other p (suc (c .steps p)) (c .steps))
+          (λ x m. m) (λ q t ne h. h) (λ q t ne h. h) (told-tick (known .told)) here mine)
+
       pub known-goes : {rank : ℕ} {k : Asking} → stage p ≡ undecided rank k → decides d c p ≡ false → Known n (put p (undecided (suc rank) k) stage) (goOn d c (goes p))
       known-goes {rank} {k} e no-store =
           let (o, asked, own) = known-at e in
-          goes-by (undecided (suc rank) k) no-store
-          (known-on (gone c p false) (undecided (suc rank) k) refl (λ q ne. refl) (λ q ne. refl) (λ q ne. refl) (λ q ne. refl) (put-other p (suc (c .steps p)) (c .steps))
-          (λ x m. m) (λ q t ne h. h) (λ q t ne h. h) (told-tick (known .told)) (opened-at e) (next-step (c .steps) o, asked, own))
+          goes-quiet (undecided (suc rank) k) no-store (opened-at e) (next-step (c .steps) o, asked, own)
+
+      pub known-stored : {rank : ℕ} → stage p ≡ decided rank → decides d c p ≡ false → Known n (put p (decided (suc rank)) stage) (goOn d c (goes p))
+      known-stored {rank} e no-store =
+          let (o, asked, (b, l, m)) = known-at e in
+          goes-quiet (decided (suc rank)) no-store (opened-at e) (next-step (c .steps) o, asked, (b, omega arith, m))
 
       -- a store's step that decides it as done
       pub known-done : {rank : ℕ} → stage p ≡ undecided rank stores → decides d c p ≡ true → Known n (put p (decided (suc rank)) stage) (goOn d c (goes p))
