@@ -1,7 +1,7 @@
 -- Demand 3 of every run from a start: whatever N, M and the entries are.
 -- Assumes nothing.
 use Prim.Native.Nat.{ℕ, suc, _+_, _≤_, _<_}
-use mathlib.Core.Path.{_≡_, refl, sym, ap, _∙_, subst, subst₂}
+use mathlib.Core.Path.{_≡_, refl, sym, ap, _∙_, subst}
 use mathlib.Core.Bool.{Bool, true, false, cond, false≢true}
 use mathlib.Core.Logic.{inl}
 use mathlib.Core.List.{List, [], _∷_, map, filterMap}
@@ -15,19 +15,18 @@ use Rattle.word.specs.Records.{itemOf, itemsOf, RightRecord, RightRecords}
 use Rattle.word.specs.Records as records
 use Rattle.word.proofs.Good.{good-start}
 use Rattle.word.proofs.Told.{done-on}
-use Rattle.word.proofs.Stages.{Stage, shut, Known, known-start}
+use Rattle.word.proofs.Stages.{shut, Known, known-start}
 use Rattle.word.proofs.Ordered.{one-order}
 use Rattle.reused.specs.Circle.{intervalOf, sizesNumber}
 use Rattle.reused.specs.Steps.{noneStored, toldOf}
 use Rattle.reused.specs.State.{rowAt, firstState, firstRow, firstTriple, noRow}
-use Rattle.reused.specs.Called.{partsAfter, lookedAt, answerWith, withEntry, entered, refused}
+use Rattle.reused.specs.Called.{partsAfter, lookedAt, answerWith, entered, refused}
 use Rattle.reused.specs.Run.{EntryNote, played, stepsBy, xChanged, noteOf, after, notes, changeCount}
 use Rattle.reused.proofs.SoundKept.{first-or-later}
 use Rattle.reused.proofs.RunLaws.{played-ready, frame}
-use Rattle.reused_linear.specs.Types.{Process, Holds, Nothing, Stored, NoProcess, Place, Idle, Own, Kind, Ask, Step, Stepped, State, Entry, Answer}
+use Rattle.reused_linear.specs.Types.{Process, Stored, NoProcess, Own, Kind, Ask, Step, Stepped, State, Entry, Answer}
 use Rattle.reused_linear.specs.Safe.{Safe, firstSafe, safeOn}
 use Rattle.reused_linear.specs.Demand3.{askedOf, saidOf, rules, Demand3}
-use Rattle.reused_linear.proofs.Inv.{Still}
 use Rattle.reused_linear.proofs.Start.{holds-not}
 use Rattle.reused_linear.proofs.Side.{Side, Sim}
 use Rattle.reused_linear.proofs.Entries.{stageOf, stages, Next, next-away, next-request, next-step, fresh-tag}

@@ -1,30 +1,27 @@
 -- Every entry: the order and the replies go on, what is said of it is right, and X has changed exactly if it decides a store.
 -- Assumes nothing.
 use Prim.Native.Nat.{ℕ, suc, _+_, _≤_, _<_}
-use mathlib.Core.Path.{_≡_, refl, sym, ap, _∙_, fun-ext, subst, subst₂}
+use mathlib.Core.Path.{_≡_, refl, sym, ap, _∙_, subst}
 use mathlib.Core.Bool.{Bool, true, false, cond, not, _&&_, false≢true}
-use mathlib.Core.Logic.{_≢_, inl, inr}
+use mathlib.Core.Logic.{_≢_, inr}
 use mathlib.Core.List.{List}
 use native.Mathlib.Omega.{arith}
-use lib.Dec.{eqb, ltb, leb}
-use borrow.Author.Tests.{ltb-true, ltb-false}
+use lib.Dec.{eqb, ltb}
 use Rattle.word.specs.Word.{Op, load, store, check, Answer, value, done, notDone, saysYes, saysNo, put}
-use Rattle.word.specs.Calls.{Item, asks, goes, answers, away, Calls, isStore, isDone, decides, goOn}
+use Rattle.word.specs.Calls.{Item, goes, answers, away, Calls, isStore, isDone, decides, goOn}
 use Rattle.word.specs.Decides.{decidesIn}
-use Rattle.word.specs.Records.{Wants, itemBy, itemOf, counted, countedAnswer, MayBeRefused, Allowed, RightRecord}
-use Rattle.word.proofs.Put.{split, put-same, put-other, put-id}
+use Rattle.word.specs.Records.{itemOf, counted, countedAnswer, MayBeRefused, Allowed, RightRecord}
+use Rattle.word.proofs.Put.{put-same, put-other, put-id}
 use Rattle.word.proofs.Items.{item-away}
-use Rattle.word.proofs.Stages.{Stage, shut, undecided, decided, loads, stores, checks, isOpen, Asks, Known, known-away, known-at, opened-at, known-asks, known-goes, known-done, known-answers, known-answered, gone, closed}
-use Rattle.reused.specs.Circle.{intervalOf}
-use Rattle.reused.specs.Steps.{sameTriple, allEqual, noneStored, storedOf, chosen, hits, hit, passed, renewed, stepAt, stepOf, idle, firstPlace, requestOf, ownSteps, toldOf, load1, load2, load3}
+use Rattle.word.proofs.Stages.{Stage, shut, undecided, decided, loads, stores, checks, isOpen, Known, known-put, known-away, known-at, opened-at, known-asks, known-goes, known-done, known-answers, known-answered, gone, closed}
+use Rattle.reused.specs.Steps.{sameTriple, allEqual, noneStored, storedOf, chosen, hits, hit, passed, renewed, stepAt, stepOf, idle, firstPlace, ownSteps, toldOf, load1, load2, load3}
 use Rattle.reused.specs.Steps as steps
 use Rattle.reused.specs.Called.{partsAfter}
 use Rattle.reused.specs.Run.{EntryNote, turnedAway, stepsBy}
 use Rattle.reused_linear.specs.Types.{Process, Triple, Named, Holds, Stored, Place, Idle, Load1, Load2, Load3, Store1, Store2, Check1, Own, Outcome, Taken, GoesOn, Value, Done, NotDone, Yes, No, NoProcess, CallOpen, NoCall, Unsound, Kind, Ask, Step, Request, Load, Store, Check, Requested, Stepped, Entry}
-use Rattle.reused_linear.specs.Arcs.{way}
 use Rattle.reused_linear.specs.Safe.{Safe}
 use Rattle.reused_linear.specs.Demand3.{wants, askedOf, saidOf, MayGoOn, MayAnswer, rules}
-use Rattle.reused_linear.proofs.Inv.{Sizes, extra, Loading, Still, ownerOf, Linked, Inv}
+use Rattle.reused_linear.proofs.Inv.{Sizes, extra, Loading, Still, Linked, Inv}
 use Rattle.reused_linear.proofs.Owners.{tag-safe}
 use Rattle.reused_linear.proofs.Readers.{Calm}
 use Rattle.reused_linear.proofs.Side.{Sim, triple-same, same-self, equal-all}
@@ -129,12 +126,8 @@ module _ {n : ℕ} {x : Triple} {own : ℕ → Own} {c : Calls Stored} (s : Sim 
   module _ (l : p .0 < n) where
     -- one row more at a stage
     staged : (o′ : Own) {c′ : Calls Stored} → Known n (put (p .0) (stageOf (o′ .place)) (stages own)) c′ → Known n (stages (put (p .0) o′ own)) c′
-    staged o′ {c′} k =
-        subst (λ (f : ℕ → Stage). Known n f c′)
-        (fun-ext (split (λ q. put (p .0) (stageOf (o′ .place)) (stages own) q ≡ stages (put (p .0) o′ own) q) (p .0)
-        (put-same (p .0) (stageOf (o′ .place)) (stages own) ∙ ap (λ (o : Own). stageOf (o .place)) (sym (put-same (p .0) o′ own)))
-        (λ q ne. put-other (p .0) (stageOf (o′ .place)) (stages own) q ne ∙ ap (λ (o : Own). stageOf (o .place)) (sym (put-other (p .0) o′ own q ne)))))
-        k
+    staged o′ k =
+        known-put (ap (λ (o : Own). stageOf (o .place)) (put-same (p .0) o′ own)) (λ q ne. ap (λ (o : Own). stageOf (o .place)) (put-other (p .0) o′ own q ne)) k
 
     -- A step after which the call goes on.
     next-goes : (x′ : Triple) (o′ : Own) (b : Bool) → decides 1 c (p .0) ≡ b → not (sameTriple x x′) ≡ b

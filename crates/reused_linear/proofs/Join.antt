@@ -10,15 +10,15 @@ use native.Mathlib.Omega.{arith}
 use Rattle.word.specs.Word.{Link, at, Op, load, store, check, Answer, value, done, notDone, put, linked, answerOf, first, Call, wordsAfter}
 use Rattle.word.specs.Calls.{asks, away, Calls, callBy, goOn}
 use Rattle.word.proofs.Put.{split, put-same, put-other}
-use Rattle.word.proofs.Changes.{writes, wrote, total-quiet, total-snoc, value-snoc, value-new, writes-own, writes-nothing}
+use Rattle.word.proofs.Changes.{wrote, total-quiet, total-snoc, value-snoc, value-new, writes-own, writes-nothing}
 use Rattle.word.proofs.Relink.{NoLoad}
 use Rattle.word.proofs.Insert.{loadCall, ins, total-ins, value-ins}
 use Rattle.word.proofs.Good.{Good, Own, Late, MayLoad, good-tick, good-append, good-load, good-count, own-new, late-new, late-later}
 use Rattle.word.proofs.Stages.{gone, closed}
-use Rattle.word.proofs.Aside.{Undecided, LateFor, endLink, Aside, aside-same, aside-snoc, aside-load, link-snoc, link-load, undecided-on, loading-on}
+use Rattle.word.proofs.Aside.{Undecided, endLink, Aside, aside-same, aside-snoc, aside-load, link-snoc, link-load, undecided-on, loading-on}
 use Rattle.reused.specs.Steps.{isKept, allEqual, noneStored, storedOf, load1, load2, load3}
 use Rattle.reused.specs.Steps as steps
-use Rattle.reused_linear.specs.Types.{Process, Triple, Kept, Holds, Stored, Place, Idle, Load1, Load2, Load3, Store1, Store2, Check1}
+use Rattle.reused_linear.specs.Types.{Process, Triple, Kept, Holds, Stored, Place, Idle, Load1, Load2, Load3, Store1, Store2}
 use Rattle.reused_linear.specs.Types as types
 use Rattle.reused_linear.proofs.Inv.{Loading, Still, Linked}
 use Rattle.reused_linear.proofs.Readers.{Calm, same-triple}

@@ -1,25 +1,25 @@
 -- Every entry of a process that is there keeps the invariants: each step assembled from its two halves.
 -- Assumes nothing.
-use Prim.Native.Nat.{ℕ, suc, _+_, _*_, _≤_, _<_}
+use Prim.Native.Nat.{ℕ, _+_, _≤_, _<_}
 use mathlib.Core.Path.{_≡_, refl, sym, ap, _∙_, subst, subst₂}
 use mathlib.Core.Bool.{Bool, true, false, cond, _&&_, false≢true}
 use mathlib.Core.Logic.{_≢_}
 use mathlib.Core.List.{List}
 use native.Mathlib.Omega.{arith}
 use lib.Dec.{eqb, ltb}
-use borrow.Author.Tests.{ltb-true, ltb-false, eqb-true, eqb-false, eq-eqb}
+use borrow.Author.Tests.{ltb-true, ltb-false, eqb-true, eq-eqb}
 use Rattle.word.specs.Word.{put}
-use Rattle.word.proofs.Put.{split, put-same, put-other, put-id}
+use Rattle.word.proofs.Put.{put-id}
 use Rattle.reused.specs.Circle.{intervalOf, arc}
-use Rattle.reused.specs.Steps.{at, allEqual, announcedOf, hits, hit, passed, renewed, chosen, stepAt, stepOf, idle, firstPlace, requestOf, load1, load2, load3}
+use Rattle.reused.specs.Steps.{at, allEqual, announcedOf, hits, hit, passed, renewed, chosen, stepAt, stepOf, idle, firstPlace, load1, load2, load3}
 use Rattle.reused.specs.Called.{partsAfter}
-use Rattle.reused_linear.specs.Types.{Process, Triple, Announced, Named, Nobody, Names, Holds, Place, Idle, Load1, Load2, Load3, Store1, Store2, Check1, Own, Ask, Outcome, Taken, GoesOn, NotDone, CallOpen, Request, Load, Store, Check, Requested, Stepped}
+use Rattle.reused_linear.specs.Types.{Process, Triple, Announced, Named, Nobody, Names, Holds, Place, Idle, Load1, Load2, Load3, Store1, Store2, Check1, Own, Ask, Taken, GoesOn, NotDone, CallOpen, Request, Load, Store, Check, Requested, Stepped}
 use Rattle.reused_linear.specs.Arcs.{way}
 use Rattle.reused_linear.specs.Safe.{Safe, safeChosen, safeStep}
 use Rattle.reused_linear.proofs.Circle.{and-true, arc-way, no-arc}
 use Rattle.reused_linear.proofs.Held.{held, Pending, x-held, name-held, read-held, held-few}
 use Rattle.reused_linear.proofs.Inv.{Sizes, extra, Loading, Still, Shown, Owner, ownerOf, Linked, Shape, Nums, AtX, Pair, Inv, at-all}
-use Rattle.reused_linear.proofs.Owners.{hitOwner, hitSafe, hitPlaces, passOwner, newOwner, newSafe, newPlaces, storeOwner, some-tags, start-room, nums-hit, atX-hit, pair-hit, nums-pass, atX-pass, pair-pass, nums-new, atX-new, pair-new, nums-store, atX-store, pair-store, atX-other}
+use Rattle.reused_linear.proofs.Owners.{hitSafe, hitPlaces, newSafe, newPlaces, storeOwner, start-room, nums-hit, atX-hit, pair-hit, nums-pass, atX-pass, pair-pass, nums-new, atX-new, pair-new, nums-store, atX-store, pair-store, atX-other}
 use Rattle.reused_linear.proofs.Readers.{extra-low, still-shown, still-idle, Calm, shape-calm, pair-calm, shape-1, pair-1, shape-2, pair-2, shape-3, pair-3}
 
 -- an owner's numbers with another `extra`

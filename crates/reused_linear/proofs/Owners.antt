@@ -2,18 +2,18 @@
 -- reader. (W9) stands here: `hit-tag` and `pass-tag`.
 -- Assumes nothing.
 use Prim.Native.Nat.{ℕ, zero, suc, _+_, _*_, _≤_, _<_}
-use mathlib.Core.Path.{_≡_, refl, sym, ap, _∙_, subst}
+use mathlib.Core.Path.{_≡_, refl, ap, subst}
 use mathlib.Core.Logic.{_⊎_, inl, inr}
 use mathlib.Core.List.{List}
 use native.Mathlib.Nat.{eq-or-lt-of-le}
 use native.Mathlib.Omega.{arith}
 use Rattle.reused.specs.Circle.{ahead}
-use Rattle.reused_linear.specs.Types.{Triple, Announced, Names, Holds, Place, Own}
+use Rattle.reused_linear.specs.Types.{Triple, Announced, Names, Holds, Own}
 use Rattle.reused_linear.specs.Arcs.{way}
 use Rattle.reused_linear.specs.Safe.{Safe}
 use Rattle.reused_linear.proofs.Circle.{way-self, way-ahead, ahead-below, in-window, before-window}
 use Rattle.reused_linear.proofs.Lists.{In, from, each, size, in-some, in-from, from-less, in-each, each-size}
-use Rattle.reused_linear.proofs.Held.{held, Pending, x-held, name-held, read-held, held-few}
+use Rattle.reused_linear.proofs.Held.{Pending}
 use Rattle.reused_linear.proofs.Inv.{Sizes, Owner, Linked, used, Nums, AtX, Pair}
 
 -- a hit, a pass, a new interval: the owner's numbers, its safe interval, the places

@@ -6,7 +6,7 @@ use mathlib.Core.Bool.{Bool, true, false, false≢true}
 use mathlib.Core.Logic.{_⊎_, inl, inr}
 use mathlib.Core.List.{List}
 use native.Mathlib.Omega.{arith}
-use Rattle.reused.specs.Steps.{at, announcedOf, load1, load2, load3}
+use Rattle.reused.specs.Steps.{announcedOf, load1, load2, load3}
 use Rattle.reused_linear.specs.Types.{Triple, Announced, Named, Nobody, Names, Kept, Nothing, Holds, Place, Idle, Load1, Load2, Load3, Store1, Store2, Check1, Own}
 use Rattle.reused_linear.specs.Arcs.{way}
 use Rattle.reused_linear.specs.Safe.{Safe}

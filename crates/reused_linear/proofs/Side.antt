@@ -1,8 +1,8 @@
 -- The relation between the machine and the order of the calls decided so far: for each process the change that it has seen, and its open call.
 -- Assumes nothing.
 use Prim.Native.Nat.{ℕ, suc, _≤_, _<_}
-use mathlib.Core.Path.{_≡_, refl, sym, ap, _∙_, subst}
-use mathlib.Core.Bool.{Bool, true, false, cond, not, _&&_, false≢true}
+use mathlib.Core.Path.{_≡_, refl, sym, ap, _∙_}
+use mathlib.Core.Bool.{Bool, true, false, _&&_, false≢true}
 use mathlib.Core.List.{List}
 use native.Mathlib.Omega.{arith}
 use lib.Dec.{eqb}
@@ -14,7 +14,7 @@ use Rattle.word.proofs.Changes.{total, valueAfter}
 use Rattle.word.proofs.Good.{Good}
 use Rattle.word.proofs.Aside.{Undecided, LateFor, endLink, Aside, undecided-on, loading-on}
 use Rattle.reused.specs.Steps.{sameBit, sameTriple, isKept, bothKeep, allEqual, noneStored, storedOf}
-use Rattle.reused_linear.specs.Types.{Process, Point, Triple, Kept, Nothing, Holds, Stored, Place, Idle, Load1, Load2, Load3, Store1, Store2, Check1, Own}
+use Rattle.reused_linear.specs.Types.{Process, Triple, Kept, Nothing, Holds, Stored, Place, Idle, Load1, Load2, Load3, Store1, Store2, Check1, Own}
 use Rattle.reused_linear.proofs.Circle.{and-true}
 use Rattle.reused_linear.proofs.Inv.{Loading, Still, Linked}
 use Rattle.reused_linear.proofs.Readers.{Calm, still-calm}

@@ -4,17 +4,17 @@ use Prim.Native.Nat.{ℕ, zero, suc, _+_, _*_, _≤_, _<_}
 use mathlib.Core.Path.{_≡_, refl, sym, ap, subst}
 use mathlib.Core.Bool.{Bool, true, false, false≢true}
 use mathlib.Core.Logic.{inl}
-use mathlib.Core.List.{List, []}
+use mathlib.Core.List.{[]}
 use native.Mathlib.Omega.{arith}
 use Rattle.reused.specs.Circle.{intervalOf}
 use Rattle.reused.specs.State.{firstRow, rowAt, firstTriple, firstState, noRow}
 use Rattle.reused.proofs.SoundKept.{first-or-later}
 use Rattle.reused_linear.specs.Types.{Triple, Announced, Named, Nobody, Names, Kept, Nothing, Holds, Own}
 use Rattle.reused_linear.specs.Arcs.{way}
-use Rattle.reused_linear.specs.Safe.{Safe, firstSafe}
+use Rattle.reused_linear.specs.Safe.{firstSafe}
 use Rattle.reused_linear.proofs.Circle.{way-one}
 use Rattle.reused_linear.proofs.Lists.{size}
-use Rattle.reused_linear.proofs.Inv.{Sizes, ownerOf, Linked, Shape, Nums, AtX, Pair, Inv}
+use Rattle.reused_linear.proofs.Inv.{Sizes, ownerOf, Shape, Nums, AtX, Pair, Inv}
 use Rattle.reused_linear.proofs.Owners.{some-tags, atX-other}
 
 names-not : {a : Announced} → Nobody ≡ Names a → ⊥

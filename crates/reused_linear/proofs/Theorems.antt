@@ -1,7 +1,7 @@
 -- The invariants hold of every state that a run from the start reaches; and document 001's three claims follow.
 -- Assumes nothing.
-use Prim.Native.Nat.{ℕ, _+_, _*_, _≤_, _<_}
-use mathlib.Core.Path.{_≡_, refl, sym, ap, _∙_, fun-ext, subst, subst₂}
+use Prim.Native.Nat.{ℕ, _+_, _≤_, _<_}
+use mathlib.Core.Path.{_≡_, refl, sym, _∙_, fun-ext, subst}
 use mathlib.Core.Bool.{Bool, true, false, cond}
 use mathlib.Core.Logic.{_⊎_, inl, inr}
 use mathlib.Core.List.{List, [], _∷_}
@@ -23,7 +23,7 @@ use Rattle.reused.proofs.Writers.{row-same, row-other}
 use Rattle.reused.proofs.RunLaws.{ready-start, ready-played, played-ready}
 use Rattle.reused_linear.specs.Types.{Process, Triple, Holds, NoProcess, Place, Idle, Load1, Load2, Load3, Store1, Store2, Check1, Own, Kind, Ask, Step, Stepped, State, Entry, Answer}
 use Rattle.reused_linear.specs.Arcs.{way, InArc}
-use Rattle.reused_linear.specs.Safe.{Safe, endSafe, firstSafe, safeStep, safeBy, safeOn, safeAfter}
+use Rattle.reused_linear.specs.Safe.{Safe, endSafe, firstSafe, safeBy, safeOn, safeAfter}
 use Rattle.reused_linear.specs.Claims.{atChoice, OutsideLoad, Claims}
 use Rattle.reused_linear.proofs.Circle.{way-self, way-ahead, ahead-below, in-arc}
 use Rattle.reused_linear.proofs.Inv.{Sizes, extra, Still, ownerOf, Linked, Nums, Inv}

@@ -2,7 +2,7 @@
 -- start reaches. Its pc 7 is `Store2`, its old, chk, tag, nextStart and procNum are a row's old, check, tag, start and search. Arcs are half open.
 use Prim.Native.Nat.{ℕ, _+_, _*_, _<_}
 use mathlib.Core.Path.{_≡_}
-use mathlib.Core.Bool.{Bool, true, false}
+use mathlib.Core.Bool.{true, false}
 use mathlib.Core.Logic.{_⊎_}
 use Rattle.reused.specs.Circle.{ahead}
 use Rattle.reused.specs.Steps.{hits}
