@@ -27,7 +27,7 @@ use Rattle.reused.proofs.RunLaws.{played-ready, frame}
 use Rattle.reused_linear.specs.Types.{Process, Stored, NoProcess, Own, Kind, Ask, Step, Stepped, State, Entry, Answer}
 use Rattle.reused_linear.specs.Safe.{Safe, firstSafe, safeOn}
 use Rattle.reused_linear.specs.Demand3.{askedOf, saidOf, rules, Demand3}
-use Rattle.reused_linear.proofs.Start.{holds-not}
+use Rattle.reused_linear.proofs.Readers.{holds-not}
 use Rattle.reused_linear.proofs.Side.{Side, Sim}
 use Rattle.reused_linear.proofs.Entries.{stageOf, stages, Next, next-away, next-request, next-step, fresh-tag}
 use Rattle.reused_linear.proofs.Theorems.{Steady, sizes-ready, few-ready, rows-put, steady-entry, steady-start}

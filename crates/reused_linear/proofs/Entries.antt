@@ -21,9 +21,11 @@ use Rattle.reused.specs.Run.{EntryNote, turnedAway, stepsBy}
 use Rattle.reused_linear.specs.Types.{Process, Triple, Named, Holds, Stored, Place, Idle, Load1, Load2, Load3, Store1, Store2, Check1, Own, Outcome, Taken, GoesOn, Value, Done, NotDone, Yes, No, NoProcess, CallOpen, NoCall, Unsound, Kind, Ask, Step, Request, Load, Store, Check, Requested, Stepped, Entry}
 use Rattle.reused_linear.specs.Safe.{Safe}
 use Rattle.reused_linear.specs.Demand3.{wants, askedOf, saidOf, MayGoOn, MayAnswer, rules}
-use Rattle.reused_linear.proofs.Inv.{Sizes, extra, Loading, Still, Linked, Inv}
+use Rattle.reused_linear.specs.Claims.{atChoice, OutsideLoad}
+use Rattle.reused_linear.proofs.Inv.{Sizes, Loading, Linked, Inv}
 use Rattle.reused_linear.proofs.Owners.{tag-safe}
 use Rattle.reused_linear.proofs.Readers.{Calm}
+use Rattle.reused_linear.proofs.Kept.{idle-place}
 use Rattle.reused_linear.proofs.Side.{Sim, triple-same, same-self, equal-all}
 use Rattle.reused_linear.proofs.Join.{sim-away, sim-request, sim-1, sim-2, sim-3, sim-done, sim-append, sim-answered, word-test, call-at}
 
@@ -64,16 +66,7 @@ pub record Next (n : ℕ) (x : Triple) (own : ℕ → Own) (c : Calls Stored) (p
   pub right : RightRecord rules n c (askedOf (entryOf p kind)) (saidOf (noteWith x p (own (p .0) .place) kind r))
   pub changes : not (sameTriple x (r .x)) ≡ decidesIn 1 c (came x p (own (p .0) .place) kind r)
 
--- a place in no call, and in one
-idle-place : (place : Place) → idle place ≡ true → place ≡ Idle
-idle-place Idle e = refl
-idle-place Load1 e = absurd (false≢true e)
-idle-place Load2 e = absurd (false≢true e)
-idle-place Load3 e = absurd (false≢true e)
-idle-place (Store1 bit) e = absurd (false≢true e)
-idle-place Store2 e = absurd (false≢true e)
-idle-place Check1 e = absurd (false≢true e)
-
+-- a place in a call
 open-place : (place : Place) → idle place ≡ false → isOpen (stageOf place) ≡ true
 open-place Idle e = absurd (false≢true (sym e))
 open-place Load1 e = refl
@@ -162,8 +155,8 @@ module _ {n : ℕ} {x : Triple} {own : ℕ → Own} {c : Calls Stored} (s : Sim 
           changes = same-x x ∙ ap (decidesIn 1 c) (sym e);
         }
 
-    calm-at : (place place′ : Place) → own (p .0) .place ≡ place → Still place → Still place′ → Calm (own (p .0)) (steps.at (own (p .0)) place′)
-    calm-at place place′ e b h = record { named = refl; old = refl; check = refl; before = subst Still (sym e) b; behind = h }
+    calm-at : (place place′ : Place) → own (p .0) .place ≡ place → OutsideLoad place → OutsideLoad place′ → Calm (own (p .0)) (steps.at (own (p .0)) place′)
+    calm-at place place′ e b h = record { named = refl; old = refl; check = refl; before = subst OutsideLoad (sym e) b; behind = h }
 
     -- Requests.
     taken : (request : Request) → own (p .0) .place ≡ Idle
@@ -258,7 +251,7 @@ module _ {n : ℕ} {x : Triple} {own : ℕ → Own} {c : Calls Stored} (s : Sim 
         x′ = record { tag = own (p .0) .tag; process = p; bit = bit }
 
         linked : Linked (own (p .0)) x
-        linked = let (old, same) = equal-all x (own (p .0)) equal in record { still = subst Still (sym e) tt; old = old; check = same }
+        linked = let (old, same) = equal-all x (own (p .0)) equal in record { still = subst OutsideLoad (sym e) tt; old = old; check = same }
 
         changed : sameTriple x x′ ≡ false
         changed = go (sameTriple x x′) refl
@@ -273,7 +266,7 @@ module _ {n : ℕ} {x : Triple} {own : ℕ → Own} {c : Calls Stored} (s : Sim 
         let (o, asked, mine) = known-at known 1 (p .0) l (ap stageOf e) in
         next-answers (steps.at (own (p .0)) Idle) NotDone notDone refl
         (sim-append s p l (store (record { process = p; bit = bit })) notDone (steps.at (own (p .0)) Idle) refl (calm-at (Store1 bit) Idle e tt tt) tt refl (call-at s p l e)
-        (ap (λ (b : Bool). cond b done notDone) (word-test s p l (subst Still (sym e) tt) ∙ equal)))
+        (ap (λ (b : Bool). cond b done notDone) (word-test s p l (subst OutsideLoad (sym e) tt) ∙ equal)))
         (known-answers known 1 (p .0) l notDone refl (ap stageOf e)) (opened-at known 1 (p .0) l (ap stageOf e)) (rank-is e (o .counted)) refl (asked, o .counted)
 
     -- The second.
@@ -282,7 +275,7 @@ module _ {n : ℕ} {x : Triple} {own : ℕ → Own} {c : Calls Stored} (s : Sim 
     second o′ e named old chk =
         let (o, asked, mine) = known-at known 1 (p .0) l (ap stageOf e) in
         next-answers (steps.at o′ Idle) Done done refl
-        (sim-answered s p l (steps.at o′ Idle) refl (record { named = named; old = old; check = chk; before = subst Still (sym e) tt; behind = tt }))
+        (sim-answered s p l (steps.at o′ Idle) refl (record { named = named; old = old; check = chk; before = subst OutsideLoad (sym e) tt; behind = tt }))
         (known-answered known 1 (p .0) l (ap stageOf e)) (opened-at known 1 (p .0) l (ap stageOf e)) (rank-is e (o .counted)) refl (asked, o .counted)
 
     -- A check.
@@ -294,7 +287,7 @@ module _ {n : ℕ} {x : Triple} {own : ℕ → Own} {c : Calls Stored} (s : Sim 
             → Sim n x (put (p .0) (steps.at (own (p .0)) Idle) own) (closed c (p .0) a false)
         word-says t equal a is =
             sim-append s p l check a (steps.at (own (p .0)) Idle) refl (calm-at Check1 Idle e tt tt) tt refl (call-at s p l e)
-            (ap (λ (b : Bool). cond b saysYes saysNo) (word-test s p l (subst Still (sym e) tt) ∙ equal) ∙ is)
+            (ap (λ (b : Bool). cond b saysYes saysNo) (word-test s p l (subst OutsideLoad (sym e) tt) ∙ equal) ∙ is)
 
         go : (t : Bool) → allEqual x (own (p .0)) ≡ t
             → Next n x own c p Step (record { x = x; own = steps.at (own (p .0)) Idle; outcome = cond t Yes No }) (put (p .0) (steps.at (own (p .0)) Idle) own)
@@ -349,5 +342,5 @@ pub fresh-tag : {N D M : ℕ} {x : Triple} {own : ℕ → Own} {safe : ℕ → S
     → own (p .0) .place ≡ Store1 bit → (q : ℕ) → q < N → Linked (own q) (record { tag = own (p .0) .tag; process = p; bit = bit }) → ⊥
 fresh-tag {N} {D} {M} {x} {own} {safe} sizes inv p l bit e q k linked =
     let n = inv .nums (p .0) l in
-    let unused = inv .pairs (p .0) l q k .unused (record { tag = own (p .0) .tag; process = p; bit = bit }) linked refl (omega (arith, ap extra e)) in
+    let unused = inv .pairs (p .0) l q k .unused (record { tag = own (p .0) .tag; process = p; bit = bit }) linked refl (omega (arith, ap atChoice e)) in
     omega (arith, unused, tag-safe sizes n)

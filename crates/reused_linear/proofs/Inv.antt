@@ -13,6 +13,7 @@ use Rattle.reused.specs.Steps.{announcedOf}
 use Rattle.reused_linear.specs.Types.{Triple, Announced, Names, Holds, Place, Idle, Load1, Load2, Load3, Store1, Store2, Check1, Own}
 use Rattle.reused_linear.specs.Arcs.{way}
 use Rattle.reused_linear.specs.Safe.{Safe}
+use Rattle.reused_linear.specs.Claims.{atChoice, OutsideLoad}
 use Rattle.reused_linear.proofs.Lists.{In, size}
 use Rattle.reused_linear.proofs.Held.{Pending}
 
@@ -22,17 +23,7 @@ pub record Sizes (N D M : ℕ) : Type 0 where
   pub interval : D ≡ (2 * N + 1) * N
   pub all : (2 * N + 2) * D ≤ M
 
--- 1 between the two steps of a store that is done: its tag is used up and the next is not chosen yet
-abbrev pub extra : Place → ℕ
-extra Idle = 0
-extra Load1 = 0
-extra Load2 = 0
-extra Load3 = 0
-extra (Store1 bit) = 0
-extra Store2 = 1
-extra Check1 = 0
-
--- a process waits for step 2 or 3 of its load; or for neither; or, for `Shown`, not for step 2
+-- a process waits for step 2 or 3 of its load (if it does not, it stands `OutsideLoad`); or, for `Shown`, not for step 2
 abbrev pub Loading : Place → Type 0
 Loading Idle = ⊥
 Loading Load1 = ⊥
@@ -41,15 +32,6 @@ Loading Load3 = Unit {0}
 Loading (Store1 bit) = ⊥
 Loading Store2 = ⊥
 Loading Check1 = ⊥
-
-abbrev pub Still : Place → Type 0
-Still Idle = Unit {0}
-Still Load1 = Unit {0}
-Still Load2 = ⊥
-Still Load3 = ⊥
-Still (Store1 bit) = Unit {0}
-Still Store2 = Unit {0}
-Still Check1 = Unit {0}
 
 abbrev pub Shown : Place → Type 0
 Shown Idle = Unit {0}
@@ -60,7 +42,7 @@ Shown (Store1 bit) = Unit {0}
 Shown Store2 = Unit {0}
 Shown Check1 = Unit {0}
 
--- an owner's numbers: its next tag, its next start, its search place, and `extra`
+-- an owner's numbers: its next tag, its next start, its search place, and 1 between the two steps of a store that is done, whose tag is used up
 pub record Owner : Type 0 where
   pub tag : ℕ
   pub start : ℕ
@@ -68,11 +50,11 @@ pub record Owner : Type 0 where
   pub more : ℕ
 
 abbrev pub ownerOf : Own → Owner
-ownerOf o = record { tag = o .tag .0; start = o .start .0; search = o .search .0; more = extra (o .place) }
+ownerOf o = record { tag = o .tag .0; start = o .start .0; search = o .search .0; more = atChoice (o .place) }
 
 -- old and check both hold w, and no load is under way
 pub record Linked (o : Own) (w : Triple) : Type 0 where
-  pub still : Still (o .place)
+  pub still : OutsideLoad (o .place)
   pub old : o .old ≡ Holds w
   pub check : o .check ≡ Holds w
 

@@ -20,7 +20,8 @@ use Rattle.reused.specs.Steps.{isKept, allEqual, noneStored, storedOf, load1, l
 use Rattle.reused.specs.Steps as steps
 use Rattle.reused_linear.specs.Types.{Process, Triple, Kept, Holds, Stored, Place, Idle, Load1, Load2, Load3, Store1, Store2}
 use Rattle.reused_linear.specs.Types as types
-use Rattle.reused_linear.proofs.Inv.{Loading, Still, Linked}
+use Rattle.reused_linear.specs.Claims.{OutsideLoad}
+use Rattle.reused_linear.proofs.Inv.{Loading, Linked}
 use Rattle.reused_linear.proofs.Readers.{Calm, same-triple}
 use Rattle.reused_linear.proofs.Side.{top, valueAt, Sees, OpenAt, processOf, Side, Sim, sees-on, sees-change, sees-calm, call-on, same-self, kept-is, test-link}
 
@@ -167,7 +168,7 @@ module _ {n : ℕ} {x : Triple} {own : ℕ → types.Own} {c : Calls Stored} (s 
     called-now o a e = λ i. record { asked = c .asked (p .0); decided = c .now; process = p .0; word = s .one (p .0) i; op = e i; answer = a }
 
     -- the word at the end of play answers p's store or check by the machine's test
-    pub word-test : Still (own (p .0) .place) → linked (endLink noneStored 0 (s .order) (p .0)) (wordsAfter (first noneStored) (s .order) 0 .count) ≡ allEqual x (own (p .0))
+    pub word-test : OutsideLoad (own (p .0) .place) → linked (endLink noneStored 0 (s .order) (p .0)) (wordsAfter (first noneStored) (s .order) 0 .count) ≡ allEqual x (own (p .0))
     word-test still =
         ap (linked (endLink noneStored 0 (s .order) (p .0))) (good-count 0 (s .good))
         ∙ ap (λ (k : Link). linked k (top (s .order))) (side .link still)
@@ -222,8 +223,8 @@ module _ {n : ℕ} {x : Triple} {own : ℕ → types.Own} {c : Calls Stored} (s 
         v : Stored
         v = record { process = p; bit = bit }
 
-        still : Still (own (p .0) .place)
-        still = subst Still (sym e) tt
+        still : OutsideLoad (own (p .0) .place)
+        still = subst OutsideLoad (sym e) tt
 
         new : Call Stored
         new = record { asked = c .asked (p .0); decided = c .now; process = p .0; word = 0; op = store v; answer = done }

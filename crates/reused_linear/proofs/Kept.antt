@@ -18,15 +18,26 @@ use Rattle.reused_linear.specs.Arcs.{way}
 use Rattle.reused_linear.specs.Safe.{Safe, safeChosen, safeStep}
 use Rattle.reused_linear.proofs.Circle.{and-true, arc-way, no-arc}
 use Rattle.reused_linear.proofs.Held.{held, Pending, x-held, name-held, read-held, held-few}
-use Rattle.reused_linear.proofs.Inv.{Sizes, extra, Loading, Still, Shown, Owner, ownerOf, Linked, Shape, Nums, AtX, Pair, Inv, at-all}
+use Rattle.reused_linear.specs.Claims.{atChoice, OutsideLoad}
+use Rattle.reused_linear.proofs.Inv.{Sizes, Loading, Shown, Owner, ownerOf, Linked, Shape, Nums, AtX, Pair, Inv, at-all}
 use Rattle.reused_linear.proofs.Owners.{hitSafe, hitPlaces, newSafe, newPlaces, storeOwner, start-room, nums-hit, atX-hit, pair-hit, nums-pass, atX-pass, pair-pass, nums-new, atX-new, pair-new, nums-store, atX-store, pair-store, atX-other}
 use Rattle.reused_linear.proofs.Readers.{extra-low, still-shown, still-idle, Calm, shape-calm, pair-calm, shape-1, pair-1, shape-2, pair-2, shape-3, pair-3}
 
--- an owner's numbers with another `extra`
+-- a place in no call
+pub idle-place : (place : Place) → idle place ≡ true → place ≡ Idle
+idle-place Idle e = refl
+idle-place Load1 e = absurd (false≢true e)
+idle-place Load2 e = absurd (false≢true e)
+idle-place Load3 e = absurd (false≢true e)
+idle-place (Store1 bit) e = absurd (false≢true e)
+idle-place Store2 e = absurd (false≢true e)
+idle-place Check1 e = absurd (false≢true e)
+
+-- an owner's numbers with another `atChoice`
 abbrev pub ownerWith : Own → ℕ → Owner
 ownerWith o k = record { tag = o .tag .0; start = o .start .0; search = o .search .0; more = k }
 
-pub owner-same : (o : Own) (k : ℕ) → k ≡ extra (o .place) → ownerWith o k ≡ ownerOf o
+pub owner-same : (o : Own) (k : ℕ) → k ≡ atChoice (o .place) → ownerWith o k ≡ ownerOf o
 owner-same o k e = ap (ownerWith o) e
 
 module _ {N D M : ℕ} {x : Triple} {own : ℕ → Own} {safe : ℕ → Safe} {hs : ℕ → List ℕ} (inv : Inv N D M x own safe hs) (z : ℕ) where
@@ -82,17 +93,17 @@ module _ {N D M : ℕ} {x : Triple} {own : ℕ → Own} {safe : ℕ → Safe} {h
     -- Steps 1, 2 and 3 of a load.
     pub kept-1 : own z .place ≡ Load1 → Inv N D M x (put z (load1 x (own z) .own) own) (put z (safe z) safe) (put z (hs z) hs)
     kept-1 e =
-        kept-reader (load1 x (own z) .own) (owner-same (own z) 0 (ap extra (sym e))) (shape-1 x (own z) (inv .xTag) (inv .xProcess) (inv .shapes z here))
+        kept-reader (load1 x (own z) .own) (owner-same (own z) 0 (ap atChoice (sym e))) (shape-1 x (own z) (inv .xTag) (inv .xProcess) (inv .shapes z here))
         (λ p l. pair-1 x (own z) (inv .atX p l) (inv .pairs p l z here))
 
     pub kept-2 : own z .place ≡ Load2 → Inv N D M x (put z (load2 x (own z) .own) own) (put z (safe z) safe) (put z (hs z) hs)
     kept-2 e =
-        kept-reader (load2 x (own z) .own) (owner-same (own z) 0 (ap extra (sym e))) (shape-2 x (own z) (subst Loading (sym e) tt) (inv .shapes z here))
+        kept-reader (load2 x (own z) .own) (owner-same (own z) 0 (ap atChoice (sym e))) (shape-2 x (own z) (subst Loading (sym e) tt) (inv .shapes z here))
         (λ p l. pair-2 x (own z) (subst Pending (sym e) tt) (inv .pairs p l z here))
 
     pub kept-3 : Sizes N D M → own z .place ≡ Load3 → Inv N D M x (put z (load3 x (own z) .own) own) (put z (safe z) safe) (put z (hs z) hs)
     kept-3 sizes e =
-        kept-reader (load3 x (own z) .own) (owner-same (own z) 0 (ap extra (sym e))) (shape-3 x (own z) (subst Shown (sym e) tt) (inv .shapes z here))
+        kept-reader (load3 x (own z) .own) (owner-same (own z) 0 (ap atChoice (sym e))) (shape-3 x (own z) (subst Shown (sym e) tt) (inv .shapes z here))
         (λ p l. pair-3 sizes x (own z) (inv .nums p l) (extra-low (own p .place)) (inv .xTag) (inv .atX p l) (inv .pairs p l z here))
 
     -- The first step of a store that is done: X holds its tag now.
@@ -104,19 +115,12 @@ module _ {N D M : ℕ} {x : Triple} {own : ℕ → Own} {safe : ℕ → Safe} {h
         (pair-calm calm (stored z here)) (λ q l ne. stored q l) (λ q l ne. pair-calm calm (inv .pairs q l z here))
       where
         calm : Calm (own z) (at (own z) Store2)
-        calm = record { named = refl; old = refl; check = refl; before = subst Still (sym e) tt; behind = tt }
+        calm = record { named = refl; old = refl; check = refl; before = subst OutsideLoad (sym e) tt; behind = tt }
 
         stored : (q : ℕ) → q < N → Pair D M (storeOwner (ownerOf (own z))) (safe z) (hs z) z (own q) q
-        stored q l = pair-store sizes (ap extra e) (inv .pairs z here q l)
+        stored q l = pair-store sizes (ap atChoice e) (inv .pairs z here q l)
 
 -- The second step of a store: what it has looked at.
-names-not : {a : Announced} → Nobody ≡ Names a → ⊥
-names-not e = false≢true (ap names e)
-  where
-    names : Named → Bool
-    names Nobody = false
-    names (Names b) = true
-
 module _ (N M : ℕ) (p : Process) (o : Own) where
   pub hits-yes : (looked : Named) → ((a : Announced) → looked ≡ Names a → a .tag .0 < M) → o .start .0 < M → intervalOf N ≤ M → hits N M p o looked ≡ true
       → (a : Announced) × (looked ≡ Names a) × (a .process .0 ≡ p .0) × (way M (o .start .0) (a .tag .0) < intervalOf N)
@@ -142,7 +146,7 @@ module _ {N M : ℕ} (sizes : Sizes N (intervalOf N) M) {x : Triple} {own : ℕ 
   n = inv .nums (p .0) here
 
   calm-chosen : (o′ : Own) → o .place ≡ Store2 → o′ .named ≡ o .named → o′ .old ≡ o .old → o′ .check ≡ o .check → Calm o (at o′ Idle)
-  calm-chosen o′ e named old check = record { named = named; old = old; check = check; before = subst Still (sym e) tt; behind = tt }
+  calm-chosen o′ e named old check = record { named = named; old = old; check = check; before = subst OutsideLoad (sym e) tt; behind = tt }
 
   -- nothing was hit: a reader at the search place that is linked to a tag of p holds none of the interval looked at
   clear : hits N M p o looked ≡ false → (q : ℕ) → q < N → (w : Triple) → Linked (own q) w → w .process .0 ≡ p .0 → q ≡ o .search .0 → intervalOf N ≤ way M (o .start .0) (w .tag .0)
@@ -161,22 +165,22 @@ module _ {N M : ℕ} (sizes : Sizes N (intervalOf N) M) {x : Triple} {own : ℕ 
       let known = inv .pairs (p .0) here (o .search .0) (n .search) .named a there who in
       kept-owner inv (p .0) here (at (hit N M o) Idle) (hitSafe (safe (p .0))) (hitPlaces (intervalOf N) M (ownerOf o) (safe (p .0)) (hs (p .0)))
       (calm-chosen (hit N M o) e refl refl refl) (nums-hit sizes n (a .tag .0) low within known)
-      (atX-hit sizes n (a .tag .0) low within known (ap extra e) (inv .atX (p .0) here))
-      (λ q l. pair-hit sizes n (a .tag .0) low within known (ap extra e) (inv .pairs (p .0) here q l))
+      (atX-hit sizes n (a .tag .0) low within known (ap atChoice e) (inv .atX (p .0) here))
+      (λ q l. pair-hit sizes n (a .tag .0) low within known (ap atChoice e) (inv .pairs (p .0) here q l))
 
   kept-pass : o .place ≡ Store2 → hits N M p o looked ≡ false → o .search .0 + 1 < N
       → Inv N (intervalOf N) M x (put (p .0) (at (passed M o) Idle) own) (put (p .0) (safe (p .0)) safe) (put (p .0) (hs (p .0)) hs)
   kept-pass e none more =
       kept-owner inv (p .0) here (at (passed M o) Idle) (safe (p .0)) (hs (p .0)) (calm-chosen (passed M o) e refl refl refl) (nums-pass sizes n more)
-      (atX-pass sizes n more (ap extra e) (inv .atX (p .0) here))
-      (λ q l. pair-pass sizes n more (ap extra e) (clear none q l) (inv .pairs (p .0) here q l))
+      (atX-pass sizes n more (ap atChoice e) (inv .atX (p .0) here))
+      (λ q l. pair-pass sizes n more (ap atChoice e) (clear none q l) (inv .pairs (p .0) here q l))
 
   kept-new : o .place ≡ Store2 → hits N M p o looked ≡ false → N ≤ o .search .0 + 1
       → Inv N (intervalOf N) M x (put (p .0) (at (renewed N M o) Idle) own) (put (p .0) (newSafe (ownerOf o)) safe) (put (p .0) (newPlaces M (ownerOf o) (held (p .0) x own N)) hs)
   kept-new e none last =
       kept-owner inv (p .0) here (at (renewed N M o) Idle) (newSafe (ownerOf o)) (newPlaces M (ownerOf o) (held (p .0) x own N)) (calm-chosen (renewed N M o) e refl refl refl)
-      (nums-new sizes n (held (p .0) x own N) (held-few (p .0) x own N here (λ h. still-idle (o .place) (subst Still (sym e) tt) h)))
-      (atX-new sizes n (held (p .0) x own N) (ap extra e) (inv .xTag) (λ f. x-held (p .0) x own N f) (inv .atX (p .0) here))
+      (nums-new sizes n (held (p .0) x own N) (held-few (p .0) x own N here (λ h. still-idle (o .place) (subst OutsideLoad (sym e) tt) h)))
+      (atX-new sizes n (held (p .0) x own N) (ap atChoice e) (inv .xTag) (λ f. x-held (p .0) x own N f) (inv .atX (p .0) here))
       (λ q l.
       pair-new sizes n (held (p .0) x own N) (λ a f g. name-held (p .0) x own N q a l f g) (λ w h f g. read-held (p .0) x own N q w l h f g) (clear none q l)
       (omega (arith, l, last)) (inv .pairs (p .0) here q l))
@@ -185,12 +189,12 @@ module _ {N M : ℕ} (sizes : Sizes N (intervalOf N) M) {x : Triple} {own : ℕ 
   abbrev pub Left : Stepped → Safe → Type 0
   Left r s = (k : ℕ → List ℕ) × Inv N (intervalOf N) M (r .x) (put (p .0) (r .own) own) (put (p .0) s safe) k
 
-  calm-at : (place place′ : Place) → o .place ≡ place → Still place → Still place′ → Calm o (at o place′)
-  calm-at place place′ e b h = record { named = refl; old = refl; check = refl; before = subst Still (sym e) b; behind = h }
+  calm-at : (place place′ : Place) → o .place ≡ place → OutsideLoad place → OutsideLoad place′ → Calm o (at o place′)
+  calm-at place place′ e b h = record { named = refl; old = refl; check = refl; before = subst OutsideLoad (sym e) b; behind = h }
 
   -- a step or a request outside a load that does not change X
-  calm-left : (place place′ : Place) → o .place ≡ place → Still place → Still place′ → extra place′ ≡ extra place → Inv N (intervalOf N) M x (put (p .0) (at o place′) own) (put (p .0) (safe (p .0)) safe) (put (p .0) (hs (p .0)) hs)
-  calm-left place place′ e b h f = kept-calm inv (p .0) here (at o place′) (owner-same o (extra place′) (f ∙ ap extra (sym e))) (calm-at place place′ e b h)
+  calm-left : (place place′ : Place) → o .place ≡ place → OutsideLoad place → OutsideLoad place′ → atChoice place′ ≡ atChoice place → Inv N (intervalOf N) M x (put (p .0) (at o place′) own) (put (p .0) (safe (p .0)) safe) (put (p .0) (hs (p .0)) hs)
+  calm-left place place′ e b h f = kept-calm inv (p .0) here (at o place′) (owner-same o (atChoice place′) (f ∙ ap atChoice (sym e))) (calm-at place place′ e b h)
 
   kept-chosen : o .place ≡ Store2 → Left (stepAt N M p x o looked Store2) (safeChosen N M p o looked (safe (p .0)))
   unfolding chosen
@@ -219,24 +223,15 @@ module _ {N M : ℕ} (sizes : Sizes N (intervalOf N) M) {x : Triple} {own : ℕ 
       go Store2 e = kept-chosen e
       go Check1 e = (_, calm-left Check1 Idle e tt tt refl)
 
-  first-still : (request : Request) → Still (firstPlace request)
+  first-still : (request : Request) → OutsideLoad (firstPlace request)
   first-still Load = tt
   first-still (Store bit) = tt
   first-still Check = tt
 
-  first-extra : (request : Request) → extra (firstPlace request) ≡ 0
+  first-extra : (request : Request) → atChoice (firstPlace request) ≡ 0
   first-extra Load = refl
   first-extra (Store bit) = refl
   first-extra Check = refl
-
-  idle-place : (place : Place) → idle place ≡ true → place ≡ Idle
-  idle-place Idle e = refl
-  idle-place Load1 e = absurd (false≢true e)
-  idle-place Load2 e = absurd (false≢true e)
-  idle-place Load3 e = absurd (false≢true e)
-  idle-place (Store1 bit) e = absurd (false≢true e)
-  idle-place Store2 e = absurd (false≢true e)
-  idle-place Check1 e = absurd (false≢true e)
 
   pub kept-request : (request : Request) → Left (partsAfter N M p x o looked (Ask request)) (safe (p .0))
   kept-request request = go (idle (o .place)) refl

@@ -13,25 +13,37 @@ use Rattle.reused_linear.specs.Safe.{Safe}
 use Rattle.reused_linear.proofs.Circle.{before-window}
 use Rattle.reused_linear.proofs.Lists.{In}
 use Rattle.reused_linear.proofs.Held.{Pending}
-use Rattle.reused_linear.proofs.Inv.{Sizes, extra, Loading, Still, Shown, Owner, Linked, used, Shape, Nums, AtX, Pair}
+use Rattle.reused_linear.specs.Claims.{atChoice, OutsideLoad}
+use Rattle.reused_linear.proofs.Inv.{Sizes, Loading, Shown, Owner, Linked, used, Shape, Nums, AtX, Pair}
 use Rattle.reused_linear.proofs.Owners.{tag-safe, start-behind, start-room}
 
 pub same-triple : {w x : Triple} → Holds w ≡ Holds x → w ≡ x
 same-triple e = cc e
 
--- what old announces is old's tag and process
-pub announced : (old : Kept) (a : Announced) → announcedOf old ≡ Names a → (w : Triple) × (old ≡ Holds w) × (w .tag .0 ≡ a .tag .0) × (w .process .0 ≡ a .process .0)
-announced Nothing a e = absurd (false≢true (ap names e))
+-- nobody is no name, and nothing no triple
+pub names-not : {a : Announced} → Nobody ≡ Names a → ⊥
+names-not e = false≢true (ap names e)
   where
     names : Named → Bool
     names Nobody = false
     names (Names b) = true
+
+pub holds-not : {w : Triple} → Nothing ≡ Holds w → ⊥
+holds-not e = false≢true (ap holds e)
+  where
+    holds : Kept → Bool
+    holds Nothing = false
+    holds (Holds w) = true
+
+-- what old announces is old's tag and process
+pub announced : (old : Kept) (a : Announced) → announcedOf old ≡ Names a → (w : Triple) × (old ≡ Holds w) × (w .tag .0 ≡ a .tag .0) × (w .process .0 ≡ a .process .0)
+announced Nothing a e = absurd (names-not e)
 announced (Holds w) a e = (w, refl, ap (λ (b : Announced). b .tag .0) (same e), ap (λ (b : Announced). b .process .0) (same e))
   where
     same : {b c : Announced} → Names b ≡ Names c → b ≡ c
     same e = cc e
 
-pub extra-low : (place : Place) → extra place ≤ 1
+pub extra-low : (place : Place) → atChoice place ≤ 1
 extra-low Idle = omega arith
 extra-low Load1 = omega arith
 extra-low Load2 = omega arith
@@ -41,7 +53,7 @@ extra-low Store2 = omega arith
 extra-low Check1 = omega arith
 
 -- neither before nor after the step does the process wait for step 2 or 3 of a load
-pub still-shown : (place : Place) → Still place → Shown place
+pub still-shown : (place : Place) → OutsideLoad place → Shown place
 still-shown Idle s = tt
 still-shown Load1 s = tt
 still-shown (Store1 bit) s = tt
@@ -50,7 +62,7 @@ still-shown Check1 s = tt
 still-shown Load2 s = absurd s
 still-shown Load3 s = absurd s
 
-pub still-idle : (place : Place) → Still place → Pending place → ⊥
+pub still-idle : (place : Place) → OutsideLoad place → Pending place → ⊥
 still-idle Load2 s h = s
 still-idle Idle s h = h
 still-idle Load1 s h = h
@@ -59,7 +71,7 @@ still-idle (Store1 bit) s h = h
 still-idle Store2 s h = h
 still-idle Check1 s h = h
 
-pub still-calm : (place : Place) → Still place → Loading place → ⊥
+pub still-calm : (place : Place) → OutsideLoad place → Loading place → ⊥
 still-calm Load2 s h = s
 still-calm Load3 s h = s
 still-calm Idle s h = h
@@ -73,8 +85,8 @@ pub record Calm (o o′ : Own) : Type 0 where
   pub named : o′ .named ≡ o .named
   pub old : o′ .old ≡ o .old
   pub check : o′ .check ≡ o .check
-  pub before : Still (o .place)
-  pub behind : Still (o′ .place)
+  pub before : OutsideLoad (o .place)
+  pub behind : OutsideLoad (o′ .place)
 
 pub shape-calm : {N M : ℕ} {o o′ : Own} → Calm o o′ → Shape N M o → Shape N M o′
 shape-calm {N} {M} {o} {o′} c s =

@@ -16,7 +16,8 @@ use Rattle.word.proofs.Aside.{Undecided, LateFor, endLink, Aside, undecided-on,
 use Rattle.reused.specs.Steps.{sameBit, sameTriple, isKept, bothKeep, allEqual, noneStored, storedOf}
 use Rattle.reused_linear.specs.Types.{Process, Triple, Kept, Nothing, Holds, Stored, Place, Idle, Load1, Load2, Load3, Store1, Store2, Check1, Own}
 use Rattle.reused_linear.proofs.Circle.{and-true}
-use Rattle.reused_linear.proofs.Inv.{Loading, Still, Linked}
+use Rattle.reused_linear.specs.Claims.{OutsideLoad}
+use Rattle.reused_linear.proofs.Inv.{Loading, Linked}
 use Rattle.reused_linear.proofs.Readers.{Calm, still-calm}
 
 -- how often the word has changed, and its value after so many changes
@@ -33,7 +34,7 @@ pub record Sees (order : List (Call Stored)) (x : Triple) (o : Own) (seen : Link
   pub values : (k : ℕ) (w : Triple) → seen ≡ at k → o .old ≡ Holds w → valueAt k order ≡ storedOf (Holds w)
   pub loads : Loading (o .place) → (k : ℕ) × (seen ≡ at k)
   pub inside : Loading (o .place) → seen ≡ at (top order) → o .old ≡ Holds x
-  pub outside : Still (o .place) → seen ≡ at (top order) → (o .old ≡ Holds x) × (o .check ≡ Holds x)
+  pub outside : OutsideLoad (o .place) → seen ≡ at (top order) → (o .old ≡ Holds x) × (o .check ≡ Holds x)
   pub newest : Linked o x → seen ≡ at (top order)
 
 -- the open call of q, by place; from the first step of a store that is done on, it is decided
@@ -52,7 +53,7 @@ processOf q = record { 0 = q }
 -- what is kept of process q
 pub record Side (now : ℕ) (order : List (Call Stored)) (x : Triple) (q t : ℕ) (op : Op Stored) (o : Own) (seen : Link) : Type 0 where
   pub sees : Sees order x o seen
-  pub link : Still (o .place) → endLink noneStored 0 order q ≡ seen
+  pub link : OutsideLoad (o .place) → endLink noneStored 0 order q ≡ seen
   pub call : OpenAt (processOf q) t now order op seen (o .place)
 
 -- There is an order that is good, the word's value at its end is X's, all calls are on the one word, and of each process there is a change that
@@ -156,7 +157,7 @@ pub all-equal : (x : Triple) (o : Own) → o .old ≡ Holds x → o .check ≡ H
 all-equal x o f g = rw (f, g, same-self x)
 
 -- Outside a load the machine's test says whether the word is linked: the link theorem.
-pub test-link : {order : List (Call Stored)} {x : Triple} {o : Own} {seen : Link} → Still (o .place) → Sees order x o seen → linked seen (top order) ≡ allEqual x o
+pub test-link : {order : List (Call Stored)} {x : Triple} {o : Own} {seen : Link} → OutsideLoad (o .place) → Sees order x o seen → linked seen (top order) ≡ allEqual x o
 test-link {order} {x} {o} {seen} still s = go (allEqual x o) refl seen refl
   where
     go : (t : Bool) → allEqual x o ≡ t → (k : Link) → seen ≡ k → linked k (top order) ≡ t

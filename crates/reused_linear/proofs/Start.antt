@@ -1,35 +1,21 @@
 -- The invariants hold at the start.
 -- Assumes nothing.
 use Prim.Native.Nat.{ℕ, zero, suc, _+_, _*_, _≤_, _<_}
-use mathlib.Core.Path.{_≡_, refl, sym, ap, subst}
-use mathlib.Core.Bool.{Bool, true, false, false≢true}
+use mathlib.Core.Path.{_≡_, refl, sym, subst}
 use mathlib.Core.Logic.{inl}
 use mathlib.Core.List.{[]}
 use native.Mathlib.Omega.{arith}
 use Rattle.reused.specs.Circle.{intervalOf}
 use Rattle.reused.specs.State.{firstRow, rowAt, firstTriple, firstState, noRow}
 use Rattle.reused.proofs.SoundKept.{first-or-later}
-use Rattle.reused_linear.specs.Types.{Triple, Announced, Named, Nobody, Names, Kept, Nothing, Holds, Own}
+use Rattle.reused_linear.specs.Types.{Own}
 use Rattle.reused_linear.specs.Arcs.{way}
 use Rattle.reused_linear.specs.Safe.{firstSafe}
 use Rattle.reused_linear.proofs.Circle.{way-one}
 use Rattle.reused_linear.proofs.Lists.{size}
 use Rattle.reused_linear.proofs.Inv.{Sizes, ownerOf, Shape, Nums, AtX, Pair, Inv}
+use Rattle.reused_linear.proofs.Readers.{names-not, holds-not}
 use Rattle.reused_linear.proofs.Owners.{some-tags, atX-other}
-
-names-not : {a : Announced} → Nobody ≡ Names a → ⊥
-names-not e = false≢true (ap names e)
-  where
-    names : Named → Bool
-    names Nobody = false
-    names (Names b) = true
-
-pub holds-not : {w : Triple} → Nothing ≡ Holds w → ⊥
-holds-not e = false≢true (ap holds e)
-  where
-    holds : Kept → Bool
-    holds Nothing = false
-    holds (Holds w) = true
 
 module _ {N D M : ℕ} (sizes : Sizes N D M) where
   -- the circle holds more than one interval

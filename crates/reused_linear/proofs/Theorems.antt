@@ -21,12 +21,12 @@ use Rattle.reused.proofs.Soundness as soundness
 use Rattle.reused.proofs.Soundness.{sizes-of, sizes-fine, sure}
 use Rattle.reused.proofs.Writers.{row-same, row-other}
 use Rattle.reused.proofs.RunLaws.{ready-start, ready-played, played-ready}
-use Rattle.reused_linear.specs.Types.{Process, Triple, Holds, NoProcess, Place, Idle, Load1, Load2, Load3, Store1, Store2, Check1, Own, Kind, Ask, Step, Stepped, State, Entry, Answer}
+use Rattle.reused_linear.specs.Types.{Process, Triple, Holds, NoProcess, Own, Kind, Ask, Step, Stepped, State, Entry, Answer}
 use Rattle.reused_linear.specs.Arcs.{way, InArc}
 use Rattle.reused_linear.specs.Safe.{Safe, endSafe, firstSafe, safeBy, safeOn, safeAfter}
 use Rattle.reused_linear.specs.Claims.{atChoice, OutsideLoad, Claims}
 use Rattle.reused_linear.proofs.Circle.{way-self, way-ahead, ahead-below, in-arc}
-use Rattle.reused_linear.proofs.Inv.{Sizes, extra, Still, ownerOf, Linked, Nums, Inv}
+use Rattle.reused_linear.proofs.Inv.{Sizes, ownerOf, Linked, Nums, Inv}
 use Rattle.reused_linear.proofs.Owners.{tag-safe, start-behind, start-room, some-tags, hit-tag, pass-tag}
 use Rattle.reused_linear.proofs.Readers.{extra-low}
 use Rattle.reused_linear.proofs.Kept.{Left, kept-step, kept-request, hits-yes}
@@ -116,24 +116,6 @@ module _ {st : State} {safe : ℕ → Safe} (steady : Steady st safe) where
       let on = way-ahead (safe p .start) (safe p .start) (intervalOf (st .n)) (n .safe) (n .safe) (omega (arith, self, start-room sizes n, start-behind sizes n, some-tags sizes)) in
       omega (arith, self, on)
 
-  still : (place : Place) → OutsideLoad place → Still place
-  still Idle h = tt
-  still Load1 h = tt
-  still Load2 h = h
-  still Load3 h = h
-  still (Store1 bit) h = tt
-  still Store2 h = tt
-  still Check1 h = tt
-
-  choice-extra : (place : Place) → atChoice place ≡ extra place
-  choice-extra Idle = refl
-  choice-extra Load1 = refl
-  choice-extra Load2 = refl
-  choice-extra Load3 = refl
-  choice-extra (Store1 bit) = refl
-  choice-extra Store2 = refl
-  choice-extra Check1 = refl
-
   claim-1 : (r : ℕ) → r < st .n → (w : Triple) → OutsideLoad (rowAt st r .place) → rowAt st r .old ≡ Holds w → rowAt st r .check ≡ Holds w
       → InArc (st .m) (ahead (st .m) (rowAt st (w .process .0) .tag .0) (atChoice (rowAt st (w .process .0) .place))) (endSafe (st .n) (st .m) (safe (w .process .0))) (w .tag .0)
       → ⊥
@@ -142,20 +124,19 @@ module _ {st : State} {safe : ℕ → Safe} (steady : Steady st safe) where
       let range = inv .shapes r l .old w old in
       let p = w .process .0 in
       let n = nums p (range .1) in
-      let linked : Linked (rowAt st r) w = record { still = still (rowAt st r .place) outside; old = old; check = check } in
+      let linked : Linked (rowAt st r) w = record { still = outside; old = old; check = check } in
       let c = ahead (st .m) (rowAt st p .tag .0) (atChoice (rowAt st p .place)) in
       let few = extra-low (rowAt st p .place) in
-      let same = choice-extra (rowAt st p .place) in
       let low = tag-safe sizes n in
       let room = start-room sizes n in
       let behind = start-behind sizes n in
       let from : way (st .m) (safe p .start) c ≡ way (st .m) (safe p .start) (rowAt st p .tag .0) + atChoice (rowAt st p .place) =
-      way-ahead (safe p .start) (rowAt st p .tag .0) (atChoice (rowAt st p .place)) (n .safe) (n .tag) (omega (arith, few, same, low, room, behind)) in
+      way-ahead (safe p .start) (rowAt st p .tag .0) (atChoice (rowAt st p .place)) (n .safe) (n .tag) (omega (arith, few, low, room, behind)) in
       let end = end-place p (range .1) in
       let found =
       in-arc (safe p .start) c (endSafe (st .n) (st .m) (safe p)) (w .tag .0) (n .safe) (ahead-below (rowAt st p .tag .0) (atChoice (rowAt st p .place)) (n .tag)) (ahead-below (safe p .start) (intervalOf (st .n)) (n .safe)) (range .0)
-      (omega (arith, from, end, few, same, low)) within in
-      let not-used = inv .pairs p (range .1) r l .unused w linked refl (omega (arith, found .0, from, same)) in
+      (omega (arith, from, end, few, low)) within in
+      let not-used = inv .pairs p (range .1) r l .unused w linked refl (omega (arith, found .0, from)) in
       omega (arith, found .1, end, not-used)
 
   claim-9 : (r : Process) → (l : r .0 < st .n)
