@@ -123,11 +123,11 @@ slowReaders =
     ∷ [])
 
 -- the start is taken, or turned away with this number
-abbrev pub Taken : ℕ → ℕ → Type 0
-Taken n m = startOf n m ≡ record { state = firstState n m; number = 0 }
+abbrev pub StartTaken : ℕ → ℕ → Type 0
+StartTaken n m = startOf n m ≡ record { state = firstState n m; number = 0 }
 
-abbrev pub TurnedAway : ℕ → ℕ → ℕ → Type 0
-TurnedAway n m number = startOf n m ≡ record { state = zeroState; number = number }
+abbrev pub StartRefused : ℕ → ℕ → ℕ → Type 0
+StartRefused n m number = startOf n m ≡ record { state = zeroState; number = number }
 
 pub record Runs : Type 0 where
   -- a load gives the start's value, and a store after it is done
@@ -158,11 +158,11 @@ pub record Runs : Type 0 where
   -- make seven jumps in one search; the interval is used up, the last two stores have one tag, and this check says yes.
   pub J : Right 3 168 slowReaders
   -- the edges of N and M
-  pub least : Taken 1 12
-  pub most : Taken 16 4294967296
-  pub no-process : TurnedAway 0 60 16
-  pub many-processes : TurnedAway 17 4294967296 16
-  pub small-circle : TurnedAway 2 59 24
-  pub smallest-circle : Taken 2 60
-  pub large-circle : TurnedAway 2 4294967297 24
-  pub both-out : TurnedAway 17 0 16
+  pub least : StartTaken 1 12
+  pub most : StartTaken 16 4294967296
+  pub no-process : StartRefused 0 60 16
+  pub many-processes : StartRefused 17 4294967296 16
+  pub small-circle : StartRefused 2 59 24
+  pub smallest-circle : StartTaken 2 60
+  pub large-circle : StartRefused 2 4294967297 24
+  pub both-out : StartRefused 17 0 16
