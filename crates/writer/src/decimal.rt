@@ -117,7 +117,8 @@ fn front_fine(b: &[u8]) -> bool
     either(one, !zero)
 }
 
-pub(crate) fn read_numeral(b: &[u8]) -> Numeral
+// What bytes say as a numeral.
+pub fn read_numeral(b: &[u8]) -> Numeral
     ensures { λ r. ⌜ r ≡ numeralOf (now (b .entry)) ⌝ }
 {
     let fine = front_fine(b);

@@ -21,6 +21,16 @@ pub(crate) fn place_from(b: &[u8], at: usize, c: u8) -> usize
     i
 }
 
+// The same, wherever the place is: behind the end of the bytes it is the place itself.
+pub fn place_of(b: &[u8], at: usize, c: u8) -> usize
+    ensures { λ r. ⌜ r ≡ at + placeOf c (drop at (now (b .entry))) ⌝ }
+{
+    if b.len() < at {
+        return at;
+    }
+    place_from(b, at, c)
+}
+
 // What stands behind a place.
 pub(crate) fn behind(b: &[u8], at: usize) -> &[u8]
     requires { ⌜ at ≤ length (now b) ⌝ }

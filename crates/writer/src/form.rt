@@ -108,7 +108,7 @@ fn read_store(rest: &[u8]) -> Line
 }
 
 // A further line.
-pub(crate) fn read_line(line: &[u8]) -> Line
+pub fn read_line(line: &[u8]) -> Line
     ensures { λ r. ⌜ r ≡ lineOf (now (line .entry)) ⌝ }
 {
     let n = line.len();

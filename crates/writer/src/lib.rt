@@ -3,10 +3,10 @@
 use step::Entry;
 
 mod block;
-mod decimal;
+pub mod decimal;
 pub mod file;
-mod find;
-mod form;
+pub mod find;
+pub mod form;
 mod scan;
 
 pub use file::write_text;
