@@ -1,5 +1,5 @@
 -- Document 01, "The player and one full run": what is printed, as bytes.
-use Prim.Native.Nat.{ℕ, zero, suc, _+_}
+use Prim.Native.Nat.{ℕ, zero, suc, _+_, _-_}
 use Prim.Native.Char.{code}
 use Prim.Native.String.{String}
 use Prim.Native.String as string
@@ -8,7 +8,7 @@ use mathlib.Core.List.{List, [], _∷_, _++_}
 use lib.Dec.{eqb, leb}
 use lib.ListN.{length, take, drop}
 use Rattle.log.specs.Found.{headFound, noteFound}
-use Rattle.text.specs.Types.{HeadFound, Laid, NoHead, Note, NoteFound, Written, NoNote}
+use Rattle.text.specs.Types.{Filled, HeadFound, Laid, NoHead, Note, NoteFound, Written, NoNote}
 use Rattle.text.specs.Decimal.{decimalOf}
 
 -- plain text: a byte for each character
@@ -87,6 +87,25 @@ textBy log NoHead = []
 
 unfoldable pub textOf : List ℕ → List ℕ
 textOf log = textBy log (headFound log)
+
+-- How many of the lines from a place on, of so many at the most, a part of this many bytes has room for: each is printed where 128 bytes are
+-- left for it. The lines themselves are `linesFrom log place` of that number.
+unfoldable pub linesFit : List ℕ → ℕ → ℕ → ℕ → ℕ
+linesFit log room place zero = 0
+linesFit log room place (suc more) =
+    cond (leb 128 room) (suc (linesFit log (room - length (lineText place (noteFound log place))) (place + 1) more)) 0
+
+-- what is left of a lent part in which the lines of the entries from `place` to before `end` are printed as far as there is room; and how many
+-- bytes were, with the place of the first entry that was not
+unfoldable pub filledText : List ℕ → ℕ → ℕ → ℕ → List ℕ
+filledText log room place end = linesFrom log place (linesFit log room place (end - place))
+
+abbrev pub filledOf : List ℕ → ℕ → ℕ → List ℕ → Filled
+filledOf log place end out =
+    record { bytes = length (filledText log (length out) place end); place = place + linesFit log (length out) place (end - place) }
+
+abbrev pub filledIn : List ℕ → ℕ → ℕ → List ℕ → List ℕ
+filledIn log place end out = filledText log (length out) place end ++ drop (length (filledText log (length out) place end)) out
 
 -- the lines of notes, the first of which has this place
 unfoldable pub linesOf : ℕ → List Note → List ℕ
