@@ -1,2 +1,6 @@
 pub mod Heads
 pub mod Onward
+pub mod Texts
+pub mod Entries
+pub mod Turns
+pub mod Wholes

@@ -2,3 +2,4 @@ pub mod Types
 pub mod Asked
 pub mod Form
 pub mod Parts
+pub mod Played

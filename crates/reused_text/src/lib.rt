@@ -2,8 +2,20 @@
 // function answers for every input, and its `ensures` gives the answer, and every byte of what is lent, as definitions of specs/.
 use reused::Entry;
 
+mod entry;
 mod form;
+mod play;
 mod scan;
+pub mod whole;
+
+pub use whole::play_text;
+
+// What came of a text: 0 or what turned it away, the line that 25 names, and how many entries were played.
+pub struct Ran {
+    pub number: usize,
+    pub line: usize,
+    pub entries: usize,
+}
 
 // What a further line says: whether it is in the form, and what it asks for.
 pub struct BitLine {
@@ -27,4 +39,10 @@ pub struct Scanned {
     pub entries: usize,
     pub n: usize,
     pub m: u64,
+}
+
+// The entry that a line asks for, and the place behind its newline.
+pub struct Next {
+    pub entry: Entry,
+    pub at: usize,
 }
