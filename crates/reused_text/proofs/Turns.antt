@@ -87,6 +87,15 @@ module _ {text : List ℕ} {from : ℕ} {rest₀ : List ℕ} {st₀ : State} {en
   records-so-far : length (recordsOf (map inLog (notes st₀ (take j es)))) ≡ 12 * j
   records-so-far = rw (records-length, length-map, notes-length, taken-count)
 
+  -- the run of one entry more
+  after-more : (done : List Entry) (e : Entry) {fs : List Entry} → fs ≡ done ++ (e ∷ []) → after st₀ fs ≡ played (after st₀ done) e .state
+  unfolding after
+  after-more done e is = rw is (after-append st₀ done (e ∷ []))
+
+  notes-more : (done : List Entry) (e : Entry) {fs : List Entry} → fs ≡ done ++ (e ∷ []) → notes st₀ fs ≡ notes st₀ done ++ (noteOf (after st₀ done) e ∷ [])
+  unfolding notes
+  notes-more done e is = rw is (notes-append st₀ done (e ∷ []))
+
   -- there is an entry to come
   pub some-coming : j < end → 0 < length (bitEntriesFrom text place)
   some-coming l = rw (← h .coming, length-drop) (omega (arith, h .long, l))
@@ -129,23 +138,21 @@ module _ {text : List ℕ} {from : ℕ} {rest₀ : List ℕ} {st₀ : State} {en
       done = recordsOf (map inLog (notes st₀ (take j es)))
 
       now-after : after st₀ (take (j + 1) es) ≡ played st e .state
-      unfolding after
-      now-after = rw (add-one j, two .0, h .state) (after-append st₀ (take j es) (e ∷ []))
+      now-after = rw (h .state) (after-more (take j es) e (rw (add-one j) (two .0)))
 
-      notes-more : notes st₀ (take (j + 1) es) ≡ notes st₀ (take j es) ++ (noteOf st e ∷ [])
-      unfolding notes
-      notes-more = rw (add-one j, two .0, h .state) (notes-append st₀ (take j es) (e ∷ []))
+      notes-now : notes st₀ (take (j + 1) es) ≡ notes st₀ (take j es) ++ (noteOf st e ∷ [])
+      notes-now = rw (h .state) (notes-more (take j es) e (rw (add-one j) (two .0)))
 
       total : changeCount (notes st₀ (take (j + 1) es)) ≡ changeCount (notes st₀ (take j es)) + cond (not (sameTriple (st .x) (r .x))) 1 0
       total =
-          rw (notes-more, count-append, left-is)
+          rw (notes-now, count-append, left-is)
           (ap (λ (k : ℕ). changeCount (notes st₀ (take j es)) + k) (change-counted st e ready-now))
 
       note-is : note ≡ inLog (noteOf st e)
       note-is = cc (says, note-written st e ready-now, seat-is, left-is)
 
       more : done ++ recordOf note ≡ recordsOf (map inLog (notes st₀ (take (j + 1) es)))
-      more = rw (notes-more, map-append, records-more, note-is)
+      more = rw (notes-now, map-append, records-more, note-is)
 
       spot : 12 * j + 12 ≡ 12 * (j + 1)
       spot = omega arith
