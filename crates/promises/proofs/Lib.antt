@@ -9,4 +9,5 @@ pub mod Text
 pub mod Bench
 pub mod Writer
 pub mod Lister
+pub mod Reused_text
 pub mod Reefcapstan

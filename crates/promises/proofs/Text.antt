@@ -11,6 +11,7 @@ use Rattle.text.proofs.line.write_refused_line
 use Rattle.text.proofs.line.write_refused_text_line
 use Rattle.text.proofs.line.write_head_of
 use Rattle.text.proofs.line.write_line_of
+use Rattle.text.proofs.page.write_lines_of
 
 module _ {M : Type 1} where
   pub count-digits-determined : Determined M count_digits.ended count_digits.clauses count_digits.spec
@@ -39,3 +40,6 @@ module _ {M : Type 1} where
 
   pub write-line-of-determined : Determined M write_line_of.ended write_line_of.clauses write_line_of.spec
   write-line-of-determined = (λ 𝓤 H A mem run. refl, λ κs a k l. same-both k l (λ v. (v, k .last .1)) (k .met) (l .met))
+
+  pub write-lines-of-determined : Determined M write_lines_of.ended write_lines_of.clauses write_lines_of.spec
+  write-lines-of-determined = (λ 𝓤 H A mem run. refl, λ κs a k l. same-both k l (λ v. (v, k .last .1)) (k .met) (l .met))

@@ -1,10 +1,9 @@
 -- One entry of a run: the row that it is given, what it leaves, and its record.
 -- Assumes nothing.
-use Prim.Native.Nat.{ℕ, suc, _+_, _-_, _≤_, _<_}
+use Prim.Native.Nat.{ℕ, _+_, _-_, _≤_, _<_}
 use mathlib.Core.Path.{_≡_, refl, sym, ap, _∙_}
-use mathlib.Core.Bool.{Bool, true, false, cond, not, _&&_, and-eq-true-iff}
-use mathlib.Core.List.{List, [], _∷_, _++_, map}
-use native.Mathlib.Decide.{decLt}
+use mathlib.Core.Bool.{Bool, true, false, cond, not, and-eq-true-iff}
+use mathlib.Core.List.{List, [], _∷_, map}
 use native.Mathlib.Omega.{arith}
 use borrow.Author.Tests.{ltb-true}
 use lib.Dec.{ltb}
@@ -13,15 +12,14 @@ use lib.Seq.{set-getD}
 use Rattle.text.specs.Lines.{newline}
 use Rattle.writer.specs.Form as p1
 use Rattle.writer.specs.Form.{placeOf}
-use Rattle.writer.specs.Parts.{entriesFrom}
 use Rattle.writer.proofs.Further.{entries-first, entries-newline}
 use Rattle.writer.proofs.Within.{entry-small}
-use Rattle.reused.specs.Steps.{sameTriple, allEqual, storedOf, toldOf, stepAt, requestOf, idle, store1, goesOn, answered, at, firstPlace}
-use Rattle.reused.specs.State.{rowAt, soundTriple, soundPoint, soundKept}
-use Rattle.reused.specs.Called.{withEntry, answerWith, lookedAt, partsAfter, called}
+use Rattle.reused.specs.Steps.{sameTriple, allEqual, storedOf, toldOf, stepAt, idle, goesOn, answered, at, firstPlace}
+use Rattle.reused.specs.State.{rowAt, soundPoint, soundKept}
+use Rattle.reused.specs.Called.{withEntry, answerWith, lookedAt, partsAfter}
 use Rattle.reused.specs.Parts.{playedParts}
 use Rattle.reused.specs.Frame.{Ready}
-use Rattle.reused.specs.Run.{EntryNote, played, noteOf, stepsBy, changeCount}
+use Rattle.reused.specs.Run.{played, noteOf, stepsBy, changeCount}
 use Rattle.reused.proofs.Soundness.{sure, sizes}
 use Rattle.reused.proofs.RunLaws.{played-ready}
 use Rattle.reused.proofs.PartsOfRun.{parts-sound, called-by-parts}

@@ -15,7 +15,7 @@ use Rattle.reused.specs.State.{rowAt}
 use Rattle.reused.specs.Called.{lookedAt, withEntry}
 use Rattle.reused.specs.Parts.{playedParts}
 use Rattle.reused.specs.Frame.{Ready}
-use Rattle.reused.specs.Run.{EntryNote, played, noteOf, notes, after, changeCount}
+use Rattle.reused.specs.Run.{played, noteOf, notes, after, changeCount}
 use Rattle.reused.proofs.RunLaws.{ready-after, after-append, notes-append, count-append, size-kept, notes-length, count-most}
 use Rattle.reused_text.specs.Types.{Process, Version, State, Entry, Stepped, Note}
 use Rattle.reused_text.specs.Parts.{bitEntriesFrom}

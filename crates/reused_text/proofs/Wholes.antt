@@ -13,14 +13,13 @@ use Rattle.log.proofs.Laws.{head-length, log-length, laid-fits, laid-short, tai
 use Rattle.text.specs.Lines.{newline}
 use Rattle.writer.specs.Form.{placeOf}
 use Rattle.writer.specs.Parts.{entriesFrom}
-use Rattle.reused.specs.Circle.{sizesNumber}
-use Rattle.reused.specs.State.{firstState, startOf}
+use Rattle.reused.specs.State.{startOf}
 use Rattle.reused.specs.Frame.{Ready}
 use Rattle.reused.specs.Run.{notes, changeCount}
 use Rattle.reused.proofs.Soundness.{sizes-fine, sizes-of}
 use Rattle.reused.proofs.RunLaws.{ready-start, notes-length}
-use Rattle.reused_text.specs.Types.{State, Started, Entry, Version, Note, Ran, Scanned}
-use Rattle.reused_text.specs.Form.{outside, textN, textM, textEntries, textNumber}
+use Rattle.reused_text.specs.Types.{State, Started, Entry, Version, Note, Scanned}
+use Rattle.reused_text.specs.Form.{textN, textM, textEntries, textNumber}
 use Rattle.reused_text.specs.Parts.{bitEntriesFrom, within, scannedOf}
 use Rattle.reused_text.specs.Played.{inLog, textNotes, textLog, ranNot, ranOf, logAfter, changesFrom, recordsFrom}
 use Rattle.reused_text.proofs.Texts.{newline-there, number-parts, scanned-refused, scanned-accepted, scanned-number}
@@ -100,7 +99,7 @@ module _ (text : List ℕ) (z : textNumber text ≡ 0) where
   unfolding textLog textNotes
   text-log = refl
 
-  text-log-length : length (textLog text) ≡ logLength (length (textEntries text))
+  pub text-log-length : length (textLog text) ≡ logLength (length (textEntries text))
   unfolding textLog textNotes
   text-log-length = log-length _ _ _ ∙ rw (length-map, notes-length)
 

@@ -3,3 +3,4 @@ pub mod Asked
 pub mod Form
 pub mod Parts
 pub mod Played
+pub mod WorkedReuse

@@ -7,7 +7,7 @@ use lib.ListN.{length}
 use Rattle.numbers.specs.Numbers.{numberUnless, firstFound}
 use Rattle.text.specs.Lines.{newline}
 use Rattle.writer.specs.Form as p1
-use Rattle.writer.specs.Form.{placeOf, fieldN, lineOne}
+use Rattle.writer.specs.Form.{placeOf, fieldN}
 use Rattle.writer.specs.Parts.{numeralOf, entriesFrom}
 use Rattle.reused.specs.Circle.{sizesNumber}
 use Rattle.reused_text.specs.Types.{Entry, Lines, Numeral, BitLine, Scanned, Sizes}

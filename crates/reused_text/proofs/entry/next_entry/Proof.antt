@@ -1,10 +1,10 @@
 -- An entry is left, so the next line has its newline.
 -- Assumes nothing.
 use borrow.Author.Needs.{needs}
-use Prim.Native.Nat.{_-_, _<_}
+use Prim.Native.Nat.{_-_}
 use native.Mathlib.Omega.{arith}
 use denote.Ref.{now}
-use lib.ListN.{length, take, drop}
+use lib.ListN.{take, drop}
 use Rattle.text.specs.Lines.{newline}
 use Rattle.reused_text.proofs.Heads.{end-most, line-entry-is}
 use Rattle.reused_text.proofs.Entries.{entry-ended, entry-next, entry-seat}

@@ -1,6 +1,5 @@
 -- A process that is there, or the first.
 -- Assumes nothing.
-use borrow.Author.Needs.{needs}
 use borrow.Author.Tests.{lt-ltb, le-ltb}
 use Rattle.reused_text.proofs.entry.seat_of.Statement.{statement}
 use Rattle.reused_text.proofs.entry.seat_of.Tie as tie

@@ -1,7 +1,6 @@
 -- The number that refuses the sizes, and then how many entries there are.
 -- Assumes nothing.
 use borrow.Author.Needs.{needs}
-use borrow.Author.Tests.{eq-eqb, ne-eqb}
 use Rattle.reused_text.specs.Parts.{judged}
 use Rattle.reused_text.proofs.scan.judge.Statement.{statement}
 use Rattle.reused_text.proofs.scan.judge.Tie as tie

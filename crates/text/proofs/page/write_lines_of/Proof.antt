@@ -1,11 +1,9 @@
 -- The loop keeps `Filling`: the lines of the entries passed stand at the front of the part, one behind the other.
 -- Assumes nothing.
 use borrow.Author.Needs.{needs}
-use Prim.Native.Nat.{_-_, _≤_}
+use Prim.Native.Nat.{_-_}
 use native.Mathlib.Omega.{arith}
-use denote.Ref.{now}
-use lib.ListN.{length}
-use Rattle.text.proofs.Filling.{Filling, filling-start, filling-next, filling-end, filling-short, part-length, line-short}
+use Rattle.text.proofs.Filling.{Filling, filling-start, filling-next, filling-end, filling-short, part-length}
 use Rattle.text.proofs.page.write_lines_of.Statement.{statement}
 use Rattle.text.proofs.page.write_lines_of.Tie as tie
 
