@@ -2,6 +2,7 @@
 #ifndef RIG_SCHEDULES_H
 #define RIG_SCHEDULES_H
 
+#include "prng.h"
 #include "reference.h"
 
 enum {
@@ -10,16 +11,6 @@ enum {
     LOG_ROOM = FILE_ROOM + 4096
 };
 
-/* splitmix64: small, and each seed gives an unrelated stream. */
-struct prng {
-    uint64_t state;
-};
-
-struct prng prng_of(uint64_t seed, uint64_t index);
-uint64_t prng_next(struct prng *r);
-uint32_t below(struct prng *r, uint32_t bound);              /* 0 to bound - 1 */
-uint32_t between(struct prng *r, uint32_t low, uint32_t high); /* low to high */
-bool chance(struct prng *r, uint32_t in, uint32_t of);
 uint64_t some_value(struct prng *r);
 
 enum style {
