@@ -17,7 +17,7 @@ const char *wrong_name(enum wrong wrong)
 bool can_be_wrong(enum wrong wrong, uint32_t processes)
 {
     switch (wrong) {
-    case WRONG_CLOSED: return processes >= 3;
+    case WRONG_CLOSED: return processes == 3;
     case WRONG_NO_RESTART: return processes >= 3;
     default: return processes >= 2;
     }
@@ -109,23 +109,27 @@ static void whole_call(struct maker *k, uint8_t kind, uint32_t p)
     finish(k, p);
 }
 
-/* Whoever would get an answer from the machine that the word doesn't allow asks for it. */
+/* Whoever isn't linked but would get an answer from the machine as if it were asks for it. Those whose old or check is X, which would get
+ * such an answer from a machine that looks at one of them alone, ask now and then. */
 static void ask_for_wrong_answers(struct maker *k)
 {
     for (uint32_t p = 0; p < k->run->processes; p++) {
+        const struct reuse_own *own = &k->m.own[p];
         bool linked = k->w.caller[p].may_link && k->w.caller[p].link == k->w.changes;
         if (!idle(k, p) || linked) {
             continue;
         }
-        if (check_would_say_yes(&k->m, p)) {
+        bool tempted = (same_stamp(k->m.x, own->old) && chance(k->r, 1, 2)) || (same_stamp(k->m.x, own->check) && chance(k->r, 1, 20));
+        if (tempted || check_would_say_yes(&k->m, p)) {
             whole_call(k, KIND_CHECK, p);
-        } else if (store_would_go_on(&k->m, p)) {
+        }
+        if (tempted || store_would_go_on(&k->m, p)) {
             whole_call(k, KIND_STORE, p);
         }
     }
 }
 
-/* Runs of short-lived interest. */
+/* Short runs will do for these. */
 
 /* A store has a hope after a load only, so loads and stores come about equally often, checks seldom. */
 static uint8_t taken_kind(struct maker *k)
@@ -247,7 +251,7 @@ static void idle_reader_entry(struct maker *k, uint32_t p)
         emit(k, KIND_LOAD, p);
     } else if (pick < 12) {
         whole_call(k, KIND_CHECK, p);
-    } else if (pick == 12) {
+    } else if (pick < 14) {
         emit(k, KIND_STORE, p);
     }
 }

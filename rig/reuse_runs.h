@@ -34,7 +34,7 @@ enum wrong {
 };
 
 const char *wrong_name(enum wrong wrong);
-bool can_be_wrong(enum wrong wrong, uint32_t processes); /* with so many processes it can make a difference */
+bool can_be_wrong(enum wrong wrong, uint32_t processes); /* runs with so many processes can show it */
 struct reuse_rules wrong_rules(enum wrong wrong, uint32_t processes, uint64_t modulus);
 
 /* Fills in the entries of a run whose N and M are set, `limit` of them. They are made along a machine that goes by the rules given: where

@@ -60,6 +60,9 @@ enum bad_m {
     BAD_MS
 };
 
+/* A line outside the form behind an N or an M that is out of range: then it is the line that is told. */
+enum { BAD_BOTHS = 8 };
+
 enum bad_whole {
     WHOLE_NO_BYTES,
     WHOLE_NO_LAST_NEWLINE,
@@ -82,10 +85,12 @@ enum {
     FROM_LINES = BAD_STARTS,
     FROM_NS = FROM_LINES + BAD_LINES,
     FROM_MS = FROM_NS + BAD_NS,
-    FROM_WHOLES = FROM_MS + BAD_MS,
+    FROM_BOTHS = FROM_MS + BAD_MS,
+    FROM_WHOLES = FROM_BOTHS + BAD_BOTHS,
     ALL_SPOILS = FROM_WHOLES + BAD_WHOLES
 };
 const size_t spoils = ALL_SPOILS;
+_Static_assert(ALL_SPOILS <= TYPED_ROUND / 2, "a round has not all of them");
 
 static void is_refused(struct typed *t, enum typed_kind kind, uint32_t number, size_t line)
 {
@@ -93,16 +98,21 @@ static void is_refused(struct typed *t, enum typed_kind kind, uint32_t number, s
     t->refused = (struct refused){number, line};
 }
 
-/* N and M. Now and then a line outside the form comes behind them, and is what is told. */
+/* N and M. */
 
-static void type_rest(struct prng *r, struct typed *t)
+static void type_rest(struct typed *t)
 {
     type_words(t, "\n");
     type_entries(t, 0, t->run.entries);
-    if (chance(r, 1, 4)) {
-        const struct line *line = &bad_lines[below(r, BAD_LINES)];
-        type_bytes(t, line->bytes, line->length);
-        t->refused = (struct refused){REUSE_BAD_LINE, t->run.entries + 2};
+}
+
+/* M is out of range too, as often as not; that isn't told. */
+static uint64_t some_m(struct prng *r, const struct typed *t)
+{
+    switch (below(r, 4)) {
+    case 0: return below(r, 100);
+    case 1: return MOST_MODULUS + between(r, 1, 100);
+    default: return t->run.modulus;
     }
 }
 
@@ -113,8 +123,8 @@ static void spoil_n(struct prng *r, struct typed *t, const char *n)
     type_words(t, "H ");
     type_words(t, n);
     type_words(t, " ");
-    type_number(t, chance(r, 1, 2) ? t->run.modulus : below(r, 100));
-    type_rest(r, t);
+    type_number(t, some_m(r, t));
+    type_rest(t);
 }
 
 static uint64_t small_bad_m(const struct reuse_run *run, enum bad_m which)
@@ -156,7 +166,19 @@ static void spoil_m(struct prng *r, struct typed *t, enum bad_m which)
     type_number(t, t->run.processes);
     type_words(t, " ");
     type_bad_m(r, t, which);
-    type_rest(r, t);
+    type_rest(t);
+}
+
+static void spoil_both(struct prng *r, struct typed *t, bool with_n)
+{
+    const struct line *line = &bad_lines[below(r, BAD_LINES)];
+    if (with_n) {
+        spoil_n(r, t, bad_ns[below(r, BAD_NS)]);
+    } else {
+        spoil_m(r, t, (enum bad_m)below(r, BAD_MS));
+    }
+    type_bytes(t, line->bytes, line->length);
+    t->refused = (struct refused){REUSE_BAD_LINE, t->run.entries + 2};
 }
 
 /* Lines. */
@@ -275,8 +297,10 @@ void spoil_as_listed(struct prng *r, struct typed *t, size_t which)
         spoil_line(r, t, &bad_lines[which - FROM_LINES]);
     } else if (which < FROM_MS) {
         spoil_n(r, t, bad_ns[which - FROM_NS]);
-    } else if (which < FROM_WHOLES) {
+    } else if (which < FROM_BOTHS) {
         spoil_m(r, t, (enum bad_m)(which - FROM_MS));
+    } else if (which < FROM_WHOLES) {
+        spoil_both(r, t, (which - FROM_BOTHS) % 2 == 0);
     } else {
         spoil_whole(r, t, (enum bad_whole)(which - FROM_WHOLES));
     }

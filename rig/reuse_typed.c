@@ -69,7 +69,7 @@ void type_run(struct typed *t)
 
 /* Runs. */
 
-enum guide { BY_RIGHT, BY_WRONG };
+enum guide { BY_RIGHT, BY_WRONG }; /* the machine that a run is made along */
 
 struct plan {
     enum run_style style;
@@ -82,12 +82,14 @@ struct plan {
 static const struct plan plans[] = {
     {RUN_CHASE, 3, 3, 5000, BY_RIGHT},      {RUN_ANY, 1, 16, 300, BY_RIGHT},
     {RUN_ONE_WRITER, 2, 4, 5000, BY_RIGHT}, {RUN_CHASE, 3, 3, 5000, BY_WRONG},
-    {RUN_REFUSED, 1, 16, 300, BY_RIGHT},    {RUN_SEQUENTIAL, 1, 4, 4000, BY_RIGHT},
-    {RUN_CHASE, 2, 2, 4000, BY_WRONG},      {RUN_ONE_WRITER, 2, 4, 5000, BY_WRONG},
-    {RUN_POLITE, 1, 16, 1500, BY_RIGHT},    {RUN_CHASE, 4, 4, 6000, BY_RIGHT},
-    {RUN_FIGHT, 2, 16, 1500, BY_RIGHT},     {RUN_CHASE, 3, 4, 6000, BY_WRONG},
+    {RUN_REFUSED, 1, 16, 300, BY_RIGHT},    {RUN_ONE_WRITER, 2, 2, 4000, BY_WRONG},
+    {RUN_SEQUENTIAL, 1, 4, 4000, BY_RIGHT}, {RUN_CHASE, 2, 2, 4000, BY_WRONG},
+    {RUN_POLITE, 1, 16, 1500, BY_RIGHT},    {RUN_ONE_WRITER, 3, 4, 5000, BY_WRONG},
+    {RUN_CHASE, 4, 4, 6000, BY_RIGHT},      {RUN_ONE_WRITER, 1, 3, 4000, BY_RIGHT},
+    {RUN_FIGHT, 2, 16, 1500, BY_RIGHT},     {RUN_CHASE, 3, 3, 5000, BY_WRONG},
     {RUN_ANY, 1, 4, 6000, BY_RIGHT},        {RUN_CHASE, 5, 16, 12000, BY_RIGHT},
-    {RUN_ONE_WRITER, 1, 3, 4000, BY_RIGHT}, {RUN_ANY, 1, 16, 2, BY_RIGHT},
+    {RUN_ANY, 1, 16, 1, BY_RIGHT},          {RUN_ONE_WRITER, 2, 3, 4000, BY_WRONG},
+    {RUN_CHASE, 2, 4, 5000, BY_WRONG},
 };
 enum { PLANS = sizeof plans / sizeof plans[0] };
 
@@ -107,26 +109,37 @@ static uint64_t some_modulus(struct prng *r, uint32_t processes)
     }
 }
 
-static struct reuse_rules guiding_rules(struct prng *r, const struct reuse_run *run, enum guide guide)
+/* By each wrong machine in turn. */
+static struct reuse_rules guiding_rules(const struct reuse_run *run, enum guide guide, uint64_t which)
 {
-    enum wrong wrong = (enum wrong)below(r, WRONGS);
+    enum wrong wrong = (enum wrong)(which / PLANS % WRONGS);
     if (guide == BY_WRONG && can_be_wrong(wrong, run->processes)) {
         return wrong_rules(wrong, run->processes, run->modulus);
     }
     return right_rules(run->processes, run->modulus);
 }
 
+/* A plan for many N takes them in turn, in steps that leave none out. */
+static uint32_t planned_processes(struct prng *r, const struct plan *plan, uint64_t which)
+{
+    uint32_t span = plan->most_processes - plan->least_processes + 1;
+    if (span < 5) {
+        return between(r, plan->least_processes, plan->most_processes);
+    }
+    return plan->least_processes + (uint32_t)((which / PLANS * 5 + which % PLANS) % span);
+}
+
 /* A wrong machine errs soonest with the least M. */
-static void make_run(struct prng *r, struct typed *t, const struct plan *plan)
+static void make_run(struct prng *r, struct typed *t, const struct plan *plan, uint64_t which)
 {
     uint32_t most = plan->most_entries;
     t->kind = TYPED_RUN;
     t->style = plan->style;
     t->known = true;
     t->refused = (struct refused){0, 0};
-    t->run.processes = between(r, plan->least_processes, plan->most_processes);
+    t->run.processes = planned_processes(r, plan, which);
     t->run.modulus = plan->guide == BY_WRONG ? least_modulus(t->run.processes) : some_modulus(r, t->run.processes);
-    struct reuse_rules rules = guiding_rules(r, &t->run, plan->guide);
+    struct reuse_rules rules = guiding_rules(&t->run, plan->guide, which);
     run_fill(r, &t->run, plan->style, most < 1000 ? below(r, most) : between(r, most / 2, most), &rules);
     type_run(t);
 }
@@ -162,7 +175,7 @@ static void make_long_run(struct prng *r, struct typed *t, enum typed_kind kind)
 {
     static const struct plan most = {RUN_POLITE, 2, 16, 120000, BY_RIGHT};
     size_t length = kind == TYPED_TOO_LONG ? TEXT_MOST + 1 : TEXT_MOST;
-    make_run(r, t, &most);
+    make_run(r, t, &most, prng_next(r));
     t->kind = kind;
     while (t->length + 8 <= length) {
         add_line(t, 4);
@@ -190,21 +203,22 @@ static void make_some_run(struct prng *r, struct typed *t, uint64_t which)
     case 40: make_long_run(r, t, TYPED_TOO_LONG); break;
     case 50: make_many_digits(r, t, true); break;
     case 60: make_many_digits(r, t, false); break;
-    default: make_run(r, t, &plans[which % PLANS]);
+    default: make_run(r, t, &plans[which % PLANS], which);
     }
 }
 
-/* Of eight texts three are runs, four are refused as listed, and one has some bytes changed. */
+/* Of eight texts three are runs, four are refused as listed, and one has some bytes changed. Those are short, as a rule. */
 void typed_make(struct prng *r, uint64_t index, struct typed *t)
 {
-    static const struct plan small = {RUN_ANY, 1, 16, 12, BY_RIGHT};
+    static const struct plan few = {RUN_ANY, 1, 16, 12, BY_RIGHT};
+    static const struct plan many = {RUN_ANY, 1, 16, 1500, BY_RIGHT};
     uint64_t eight = index / 8;
     uint64_t turn = index % 8;
     if (turn < 3) {
         make_some_run(r, t, 3 * eight + turn);
         return;
     }
-    make_run(r, t, &small);
+    make_run(r, t, chance(r, 1, 12) ? &many : &few, index);
     if (turn < 7) {
         spoil_as_listed(r, t, (size_t)((4 * eight + turn - 3) % spoils));
     } else {

@@ -35,7 +35,7 @@ static void link_is(struct word *w, struct word_caller *own, bool linked)
 static void change(struct word *w, uint32_t value)
 {
     for (uint32_t p = 0; p < w->processes; p++) {
-        w->caller[p].lost |= UINT32_C(1) << w->value;
+        w->caller[p].lost |= 1u << w->value;
     }
     w->value = value;
     w->changes++;
