@@ -81,9 +81,9 @@ struct reuse_own {
 
 /* What the choices of tags met. */
 struct reuse_counts {
-    uint64_t wraps;     /* a chosen tag is smaller than the one before */
-    uint64_t hits;      /* the place of A that is read names the process and a tag of the interval */
-    uint64_t intervals; /* found free, and taken */
+    uint64_t wraps;      /* a chosen tag is smaller than the one before */
+    uint64_t hits;       /* the place of A that is read names the process and a tag of the interval */
+    uint64_t intervals;  /* found free, and taken */
     uint32_t most_jumps; /* of one search */
 };
 

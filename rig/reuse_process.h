@@ -5,15 +5,15 @@
 #include "reuse_text.h"
 
 enum {
-    PIECE_MOST = 4096,     /* bytes that are written at once: a pipe that has room at all has room for so many */
-    SECONDS_MOST = 60,     /* a run that takes longer is ended */
-    ARGUMENTS_MOST = 4,
-    MESSAGE_MOST = 200     /* so much of standard error is kept */
+    PIECE_MOST = 4096, /* bytes that are written at once: a pipe that has room at all has room for so many */
+    SECONDS_MOST = 60, /* a run that takes longer is ended */
+    PARTS_MOST = 4,
+    MESSAGE_MOST = 200 /* so much of standard error is kept */
 };
 
 /* A program and its arguments, ended by NULL. */
 struct command {
-    const char *part[ARGUMENTS_MOST + 1];
+    const char *part[PARTS_MOST + 1];
 };
 
 /* What a run gave. */

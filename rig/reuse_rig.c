@@ -1,4 +1,5 @@
-/* The rig for the machine with reused numbers: document 02's P9 in plain C, against a program that reads a text and prints what comes of it.
+/* The rig for the machine with reused numbers: document 02's P9 in plain C, against a program that reads a text and prints what comes of
+ * it.
  *
  *   reuse_rig PROGRAM SEED COUNT   runs, good and refused texts: the program's output against the rig's own
  *   reuse_rig --selftest           runs by hand, wrong machines and wrong programs

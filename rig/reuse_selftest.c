@@ -123,6 +123,7 @@ static const struct wrong_program wrong_programs[] = {
     {"writes on standard error", "\"$0\" --play; echo >&2"},
     {"loses the last byte", "\"$0\" --play | head -c -1"},
     {"reads only the first bytes", "head -c 65536 | \"$0\" --play"},
+    {"reads only once", "dd bs=1048576 count=1 2>/dev/null | \"$0\" --play"},
     {"reads no byte too much", "head -c 1048576 | \"$0\" --play"},
     {"passes over returns", "tr -d '\\r' | \"$0\" --play"},
     {"passes over zero bytes", "tr -d '\\0' | \"$0\" --play"},

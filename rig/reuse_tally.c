@@ -22,9 +22,9 @@ void tally_typed(struct reuse_tally *t, const struct typed *text, struct refused
 }
 
 static const enum reuse_row outcome_rows[] = {
-    [REQUEST_TAKEN] = REUSE_REQUESTS,       [STEP_TAKEN] = REUSE_STEPS_ON,     [LOAD_ANSWERED] = REUSE_LOADS,
-    [STORE_DONE] = REUSE_STORES_DONE,       [STORE_NOT_DONE] = REUSE_STORES_NOT_DONE, [CHECK_YES] = REUSE_CHECKS_YES,
-    [CHECK_NO] = REUSE_CHECKS_NO,           [NO_SUCH_PROCESS] = REUSE_ENTRY_11, [CALL_OPEN] = REUSE_ENTRY_12,
+    [REQUEST_TAKEN] = REUSE_REQUESTS,   [STEP_TAKEN] = REUSE_STEPS_ON,            [LOAD_ANSWERED] = REUSE_LOADS,
+    [STORE_DONE] = REUSE_STORES_DONE,   [STORE_NOT_DONE] = REUSE_STORES_NOT_DONE, [CHECK_YES] = REUSE_CHECKS_YES,
+    [CHECK_NO] = REUSE_CHECKS_NO,       [NO_SUCH_PROCESS] = REUSE_ENTRY_11,       [CALL_OPEN] = REUSE_ENTRY_12,
     [PROCESS_IDLE] = REUSE_ENTRY_14};
 
 /* `first` is, for each process, the count of changes at its latest load's first step. */

@@ -26,7 +26,8 @@ static const struct hand_run hand_runs[] = {
     {"a store and a check without a load", "H 1 12\nS 0 1\nT 0\n" VL("0") "S 0 0\nT 0\n",
      "entries 6 changes 0 processes 1\n"
      "0 0 0 0 0 0\n1 0 4 1 0 0\n2 0 0 0 0 0\n3 0 6 1 0 0\n4 0 0 0 0 0\n5 0 4 1 0 0\n"},
-    {"a store by another between load and store", "H 2 60\n" LL("1") LL("0") SC("0", "1") VL("1") "S 1 0\nT 1\n" LL("1") VL("1") SC("1", "0") LL("0"),
+    {"a store by another between load and store",
+     "H 2 60\n" LL("1") LL("0") SC("0", "1") VL("1") "S 1 0\nT 1\n" LL("1") VL("1") SC("1", "0") LL("0"),
      "entries 28 changes 2 processes 2\n"
      "0 1 0 0 0 0\n1 1 1 1 0 0\n2 1 1 2 0 0\n3 1 2 3 0 0\n"
      "4 0 0 0 0 0\n5 0 1 1 0 0\n6 0 1 2 0 0\n7 0 2 3 0 0\n8 0 0 0 0 0\n9 0 1 1 0 0\n10 0 3 2 0 0\n"
@@ -43,7 +44,8 @@ static const struct hand_run hand_runs[] = {
     {"a store of the same bit is a change", "H 1 12\n" LL("0") SC("0", "0") VL("0") "S 0 0\nT 0\n",
      "entries 11 changes 1 processes 1\n0 0 0 0 0 0\n1 0 1 1 0 0\n2 0 1 2 0 0\n3 0 2 3 0 0\n4 0 0 0 0 0\n5 0 1 1 0 0\n6 0 3 2 0 0\n"
      "7 0 0 0 0 0\n8 0 6 1 0 0\n9 0 0 0 0 0\n10 0 4 1 0 0\n"},
-    {"entries refused by 11, 12 and 14", "H 2 60\nT 0\nT 2\nL 255\nS 16 1\nV 2\nL 1\nL 1\nS 1 0\nV 1\nT 1\nV 1\nT 1\nT 1\nT 1\nT 1\n",
+    {"entries refused by 11, 12 and 14",
+     "H 2 60\nT 0\nT 2\nL 255\nS 16 1\nV 2\nL 1\nL 1\nS 1 0\nV 1\nT 1\nV 1\nT 1\nT 1\nT 1\nT 1\n",
      "entries 15 changes 0 processes 2\n"
      "0 0 14 0 0 0\n1 2 11 0 0 0\n2 255 11 0 0 0\n3 16 11 0 0 0\n4 2 11 0 0 0\n5 1 0 0 0 0\n6 1 12 0 0 0\n7 1 12 0 0 0\n"
      "8 1 12 0 0 0\n9 1 1 1 0 0\n10 1 12 0 0 0\n11 1 1 2 0 0\n12 1 2 3 0 0\n13 1 14 0 0 0\n14 1 14 0 0 0\n"},

@@ -7,10 +7,10 @@
 enum reuse_refusal { REUSE_BAD_PROCESSES = 16, REUSE_BAD_MODULUS = 24, REUSE_BAD_LINE = 25 };
 
 enum {
-    TEXT_MOST = 1048576,         /* bytes of a text; a longer one isn't read */
+    TEXT_MOST = 1048576,          /* bytes of a text; a longer one isn't read */
     ENTRIES_MOST = TEXT_MOST / 4, /* as no line of an entry is shorter than `T 0` */
     OUTPUT_HEAD_MOST = 64,
-    OUTPUT_LINE_MOST = 24,       /* 262143 255 14 0 15 1 and its newline take 20 */
+    OUTPUT_LINE_MOST = 24, /* 262143 255 14 0 15 1 and its newline would take 21 */
     OUTPUT_ROOM = OUTPUT_HEAD_MOST + OUTPUT_LINE_MOST * ENTRIES_MOST
 };
 

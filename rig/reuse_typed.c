@@ -3,8 +3,8 @@
 const char *typed_kind_name(enum typed_kind kind)
 {
     static const char *const names[TYPED_KINDS] = {
-        "run", "closed3.text", "run of 1048576 bytes", "longer than 1048576 bytes", "1048576 bytes of digits", "N out of range", "M out of range",
-        "line 1 outside the form", "later line outside the form", "whole text spoilt", "bytes changed"};
+        "run", "closed3.text", "run of 1048576 bytes", "longer than 1048576 bytes", "1048576 bytes of digits", "N out of range",
+        "M out of range", "line 1 outside the form", "later line outside the form", "whole text spoilt", "bytes changed"};
     return kind < TYPED_KINDS ? names[kind] : "?";
 }
 
@@ -149,8 +149,8 @@ static void make_run(struct prng *r, struct typed *t, const struct plan *plan, u
 #define ROUND SC("0") LL("0")
 #define ROUNDS_3 ROUND ROUND ROUND
 #define ROUNDS_6 ROUNDS_3 ROUNDS_3
-const char closed_3[] = "H 3 168\n" LL("0") "L 1\nT 1\n" ROUNDS_6 ROUND "T 1\nT 1\nL 2\nT 2\n" ROUNDS_6 "T 2\nT 2\nL 2\nT 2\n" ROUNDS_6
-    "L 1\nT 1\n" ROUNDS_6 ROUNDS_3 ROUND ROUND "S 0 0\nT 0\nT 1\nT 2\nT 0\n" LL("0") ROUNDS_6 ROUNDS_3 SC("0") "V 0\nT 0\n";
+const char closed_3[] = "H 3 168\n" LL("0") "L 1\nT 1\n" ROUNDS_6 ROUND "T 1\nT 1\nL 2\nT 2\n" ROUNDS_6 "T 2\nT 2\nL 2\nT 2\n"
+    ROUNDS_6 "L 1\nT 1\n" ROUNDS_6 ROUNDS_3 ROUND ROUND "S 0 0\nT 0\nT 1\nT 2\nT 0\n" LL("0") ROUNDS_6 ROUNDS_3 SC("0") "V 0\nT 0\n";
 
 static void make_closed(struct typed *t)
 {
