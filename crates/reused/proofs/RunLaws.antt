@@ -8,7 +8,7 @@ use lib.Dec.{ltb}
 use lib.ListN.{length}
 use Rattle.reused.specs.Types.{NoProcess, Entry, State}
 use Rattle.reused.specs.Circle.{sizesNumber}
-use Rattle.reused.specs.State.{rowAt, firstState}
+use Rattle.reused.specs.State.{rowAt, firstState, startOf}
 use Rattle.reused.specs.Called.{refused, entered, called}
 use Rattle.reused.specs.Frame.{Ready}
 use Rattle.reused.specs.Run.{EntryNote, played, noteOf, after, notes, changeCount}
@@ -17,6 +17,11 @@ use Rattle.reused.proofs.Untouched as untouched
 use Rattle.reused.proofs.SoundKept.{sound-kept, start-sound}
 -- an entry changes X and its own process's row at the most
 pub use Rattle.reused.proofs.Untouched.{frame, above-kept}
+
+-- a start that is taken is the first state
+pub start-first : (n m : ℕ) → sizesNumber n m ≡ 0 → startOf n m ≡ record { state = firstState n m; number = 0 }
+unfolding startOf
+start-first n m e = rw e
 
 pub ready-start : (n m : ℕ) → sizesNumber n m ≡ 0 → Ready (firstState n m)
 ready-start n m e = record { tested = sound-back (firstState n m) (start-sound n m e); full = refl }

@@ -6,7 +6,6 @@ pub mod Called
 pub mod Parts
 pub mod Run
 pub mod Frame
-pub mod Forms
 pub mod Registers
 pub mod Numbers
 pub mod Table

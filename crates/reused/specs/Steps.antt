@@ -31,6 +31,10 @@ abbrev pub at : Own → Place → Own
 at own place =
     record { named = own .named; old = own .old; check = own .check; tag = own .tag; start = own .start; search = own .search; place = place }
 
+abbrev pub withKept : Own → Named → Kept → Kept → Place → Own
+withKept own named old check place =
+    record { named = named; old = old; check = check; tag = own .tag; start = own .start; search = own .search; place = place }
+
 -- "step taken, call goes on"; an answered call leaves its process idle; a refused entry leaves everything
 abbrev pub goesOn : Triple → Own → Stepped
 goesOn x own = record { x = x; own = own; outcome = GoesOn }
@@ -43,9 +47,7 @@ asWas x own outcome = record { x = x; own = own; outcome = outcome }
 
 -- "Load: read X as old;"
 abbrev pub load1 : Triple → Own → Stepped
-load1 x own =
-    goesOn x
-    (record { named = own .named; old = Holds x; check = own .check; tag = own .tag; start = own .start; search = own .search; place = Load2 })
+load1 x own = goesOn x (withKept own (own .named) (Holds x) (own .check) Load2)
 
 -- ".. announce old's process and tag in one's own place of A;" (with no old, which no sound row has there, nobody is named)
 abbrev pub announcedOf : Kept → Named
@@ -53,17 +55,7 @@ announcedOf Nothing = Nobody
 announcedOf (Holds w) = Names (record { process = w .process; tag = w .tag })
 
 abbrev pub load2 : Triple → Own → Stepped
-load2 x own =
-    goesOn x
-    (record {
-      named = announcedOf (own .old);
-      old = own .old;
-      check = own .check;
-      tag = own .tag;
-      start = own .start;
-      search = own .search;
-      place = Load3;
-    })
+load2 x own = goesOn x (withKept own (announcedOf (own .old)) (own .old) (own .check) Load3)
 
 -- ".. read X as check; answer old's process and bit." (with no old: the word's first value)
 abbrev pub noneStored : Stored
@@ -74,12 +66,7 @@ storedOf Nothing = noneStored
 storedOf (Holds w) = record { process = w .process; bit = w .bit }
 
 abbrev pub load3 : Triple → Own → Stepped
-load3 x own =
-    record {
-      x = x;
-      own = record { named = own .named; old = own .old; check = Holds x; tag = own .tag; start = own .start; search = own .search; place = Idle };
-      outcome = Value (storedOf (own .old));
-    }
+load3 x own = record { x = x; own = withKept own (own .named) (own .old) (Holds x) Idle; outcome = Value (storedOf (own .old)) }
 
 -- "Store, first step: if old equals check and X equals old, X becomes [tag, p, bit] and the call goes on; else not done."
 abbrev pub store1 : Process → Triple → Own → Bool → Stepped

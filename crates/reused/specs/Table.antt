@@ -155,8 +155,12 @@ pub record Runs : Type 0 where
   -- tell that from a word that nobody stored into, and need not: it takes effect at its last step, and its process is linked.
   pub I : Right 2 60 (requestTaken 1 Load ∷ stepTaken 1 1 ∷ (pairs 13 ++ (stepTaken 1 2 ∷ answersLL 1 0 false ∷ VLyes 1)))
   -- N 3, M 168: D is 21. Process 0 stores, and its check without a new load says no. With figure 10's interval closed, as it is printed, two slow readers
-  -- make seven jumps in one search; the interval is used up, the last two stores have one tag, and this check says yes.
+  -- make eight jumps in one search; the interval is used up, the last two stores have one tag, and this check says yes.
   pub J : Right 3 168 slowReaders
+  -- As I, but process 1's load ends one store earlier: its two reads differ, so that it serves for no check and no store, though X is old again.
+  pub K : Right 2 60 (requestTaken 1 Load ∷ stepTaken 1 1 ∷ (pairs 12 ++ (stepTaken 1 2 ∷ answersLL 1 0 false ∷ (pair ++ (VLno 1 ++ SCfails 1 true)))))
+  -- As I, but process 1 has announced what it read: process 0 comes upon it, and the start's tag does not come again.
+  pub L : Right 2 60 (requestTaken 1 Load ∷ stepTaken 1 1 ∷ stepTaken 1 2 ∷ (pairs 13 ++ (answersLL 1 0 false ∷ VLno 1)))
   -- the edges of N and M
   pub least : StartTaken 1 12
   pub most : StartTaken 16 4294967296

@@ -1,9 +1,8 @@
 // The steps of a load, a store and a check, and a request: what each leaves of X and of its process's row.
 ghost use mathlib.Core.Path.{_≡_};
 ghost use mathlib.Core.Bool.{true};
-ghost use Rattle.reused.specs.Steps.{sameBit, sameTriple, isKept, bothKeep, allEqual, at, goesOn, answered, load1, announcedOf, load2, storedOf, load3, store1, store2, check1, stepOf, ownSteps, firstPlace, requestOf};
+ghost use Rattle.reused.specs.Steps.{sameBit, sameTriple, isKept, bothKeep, allEqual, at, goesOn, answered, load1, announcedOf, load2, storedOf, load3, store1, store2, check1, stepOf, ownSteps, firstPlace, requestOf, withKept};
 ghost use Rattle.reused.specs.State.{soundSizes, soundNamed, soundRow};
-ghost use Rattle.reused.specs.Forms.{withKept};
 use crate::Announced;
 use crate::Kept;
 use crate::Named;

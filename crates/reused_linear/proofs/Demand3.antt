@@ -26,7 +26,7 @@ use Rattle.reused.proofs.SoundKept.{first-or-later}
 use Rattle.reused.proofs.RunLaws.{played-ready, frame}
 use Rattle.reused_linear.specs.Types.{Process, Stored, NoProcess, Own, Kind, Ask, Step, Stepped, State, Entry, Answer}
 use Rattle.reused_linear.specs.Safe.{Safe, firstSafe, safeOn}
-use Rattle.reused_linear.specs.Demand3.{askedOf, saidOf, rules, Demand3}
+use Rattle.reused_linear.specs.Demand3.{askedOf, saidOf, rules, Demand3, ChangesDecide}
 use Rattle.reused_linear.proofs.Readers.{holds-not}
 use Rattle.reused_linear.proofs.Side.{Side, Sim}
 use Rattle.reused_linear.proofs.Entries.{stageOf, stages, Next, next-away, next-request, next-step, fresh-tag}
@@ -98,12 +98,13 @@ pub record Ended (n : ℕ) (st : State) (c c′ : Calls Stored) (es : List Entry
   pub sim : SimOf st c′
   pub known : KnownIn st c′
   pub right : RightRecords rules n c (map askedOf es) (map saidOf ws)
+  pub decide : ChangesDecide c es ws
   pub changed : doneCount (c′ .played) ≡ doneCount (c .played) + changeCount ws
 
 pub run-on : (n : ℕ) (st : State) (safe : ℕ → Safe) (c : Calls Stored) (es : List Entry) → st .n ≡ n → Steady st safe → SimOf st c → KnownIn st c
     → Ended n (after st es) c (callsFrom 1 c (itemsOf (map askedOf es) (map saidOf (notes st es)))) es (notes st es)
 unfolding after notes callsFrom changeCount
-run-on n st safe c [] size steady sim known = record { sim = sim; known = known; right = tt; changed = omega arith }
+run-on n st safe c [] size steady sim known = record { sim = sim; known = known; right = tt; decide = tt; changed = omega arith }
 run-on n st safe c (e ∷ es) size steady sim known =
     let gone = gone-entry steady c sim known e in
     let rest = run-on n (played st e .state) (safeOn st e safe) (goOn 1 c (itemOf (askedOf e) (saidOf (noteOf st e)))) es (frame st (e .process) (e .kind) .n ∙ size) (steady-entry steady e) (gone .sim) (gone .known) in
@@ -111,6 +112,7 @@ run-on n st safe c (e ∷ es) size steady sim known =
       sim = rest .sim;
       known = rest .known;
       right = (subst (λ (k : ℕ). RightRecord rules k c (askedOf e) (saidOf (noteOf st e))) size (gone .right), rest .right);
+      decide = (gone .changes, rest .decide);
       changed =
           add (xChanged st (played st e .state)) _ _ _
           (done-on 1 c (itemOf (askedOf e) (saidOf (noteOf st e))) ∙ ap (λ (b : Bool). cond b (suc d) d) (sym (gone .changes))) (rest .changed);
@@ -176,3 +178,7 @@ module _ (n m : ℕ) (range : sizesNumber n m ≡ 0) (es : List Entry) where
         records = ended .right;
         changesCounted = omega (arith, ended .changed);
       }
+
+  -- X changes exactly where a store's first own step goes on
+  pub changes-decide : ChangesDecide noCalls es (notes (firstState n m) es)
+  changes-decide = ended .decide

@@ -67,7 +67,7 @@ not-done-late h = omega (arith, h .records .1 .1 .0 .allowed .2 .1)
 pub check-goes-on : ¬ Demand 0 (by 0 (Ask Check) ∷ step ∷ []) (taken ∷ on 1 ∷ [])
 check-goes-on h = h .records .1 .0 .allowed .2
 
--- a load that is answered "yes", a store that is answered "no", a check that is "done";
+-- a load that is answered "yes", a store that is answered "no", a check that is "not done";
 abbrev opNumber : Op Stored → ℕ
 opNumber load = 1
 opNumber (store v) = 2
@@ -118,7 +118,7 @@ pub never-stored : ¬ Demand 0 (by 0 (Ask Load) ∷ step ∷ step ∷ step ∷ [
 unfolding callsFrom
 never-stored h = some-first noneStored _ _ ((λ e. omega (arith, ap answerNumber e)), tt) (h .oneOrder .inOrder)
 
--- States that the three claims exclude. N 1, M 12: process 0 is linked to tag 1 and is about to use it.
+-- States that the three claims exclude. N 1, M 12: process 0 is linked to tag 0 and is about to use it.
 abbrev row : ℕ → ℕ → ℕ → Own
 row tag start search =
     record { named = Nobody; old = Holds firstTriple; check = Holds firstTriple; tag = record { 0 = tag }; start = record { 0 = start }; search = record { 0 = search }; place = Idle }

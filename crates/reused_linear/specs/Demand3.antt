@@ -4,9 +4,10 @@
 use Prim.Native.Nat.{ℕ, _≤_}
 use mathlib.Core.Path.{_≡_}
 use mathlib.Core.Bool.{Bool, true}
-use mathlib.Core.List.{List, map}
+use mathlib.Core.List.{List, [], _∷_, map}
 use Rattle.word.specs.Word.{Op, load, store, check, Answer, value, done, notDone, saysYes, saysNo}
-use Rattle.word.specs.Calls.{isStore}
+use Rattle.word.specs.Calls.{Calls, isStore, goOn}
+use Rattle.word.specs.Decides.{decidesIn}
 use Rattle.word.specs.Records.{Wants, aRequest, aStep, Asked, Said, Rules}
 use Rattle.word.specs.Records as records
 use Rattle.reused.specs.Steps.{noneStored}
@@ -54,3 +55,12 @@ abbrev pub Demand3 : ℕ → ℕ → List Entry → Type 0
 Demand3 n m es =
     let ws = notes (firstState n m) es in
     records.Demand3 rules n noneStored (changeCount ws) (map askedOf es) (map saidOf ws)
+
+-- Entry by entry, c being the calls before it: X has changed exactly if a store's first own step goes on.
+abbrev pub ChangesDecide : Calls Stored → List Entry → List EntryNote → Type 0
+ChangesDecide c [] [] = Unit {0}
+ChangesDecide c [] (w ∷ ws) = ⊥
+ChangesDecide c (e ∷ es) [] = ⊥
+ChangesDecide c (e ∷ es) (w ∷ ws) =
+    let came = records.itemOf (askedOf e) (saidOf w) in
+    (w .changed ≡ decidesIn 1 c came) × ChangesDecide (goOn 1 c came) es ws

@@ -15,7 +15,13 @@ use reused::State;
 use reused::parts::play_parts;
 
 // Plays the entries that the lines from a place on ask for, and writes their records into the front of the rest of the log.
-pub(crate) fn play_lines(text: &[u8], from: usize, rest: &mut [u8], first: State, end: usize) -> Version
+pub(crate) fn play_lines(
+    text: &[u8],
+    from: usize,
+    rest: &mut [u8],
+    first: State,
+    end: usize,
+) -> Version
     requires { ⌜ (Ready first) × (from ≤ length (now text)) × (end ≡ length (bitEntriesFrom (now text) from)) × (12 * end ≤ length (now rest)) × (end ≤ 4294967295) ⌝ }
     ensures { λ r. ⌜ (r ≡ changesFrom first (bitEntriesFrom (now (text .entry)) from)) × (now (rest .exit) ≡ recordsFrom first (bitEntriesFrom (now (text .entry)) from) (now (rest .entry))) ⌝ }
 {
