@@ -1,6 +1,5 @@
 pub mod WorkedReuse
 pub mod Heads
-pub mod Onward
 pub mod Texts
 pub mod Entries
 pub mod Turns

@@ -14,12 +14,12 @@ use Rattle.numbers.specs.Numbers.{inRangeN, numberUnless, firstFound}
 use Rattle.numbers.proofs.First.{found-both, unless-fine}
 use Rattle.text.specs.Decimal.{said}
 use Rattle.text.specs.Lines.{newline}
-use Rattle.writer.specs.Form.{placeOf, isNumeral, opensWith, fieldN, lineOne, further}
+use Rattle.writer.specs.Form.{placeOf, isNumeral, opensWith, fieldN, lineOne}
 use Rattle.writer.specs.Parts.{numeralOf}
 use Rattle.reused.specs.Circle.{intervalOf, inRangeM, sizesNumber}
 use Rattle.reused.proofs.Soundness.{sizes-fine, sizes-of, interval-least}
 use Rattle.reused_text.specs.Types.{Scanned}
-use Rattle.reused_text.specs.Form.{fieldM, headFine, firstOutside, outside, textN, textM, textEntries, textNumber}
+use Rattle.reused_text.specs.Form.{fieldM, headFine, outside, textN, textM, textEntries, textNumber}
 use Rattle.reused_text.specs.Parts.{sizesOf, passedOver, judged, within, scannedOf}
 
 -- a number of 2^64 or more, or 0 in its place: neither is an N or an M
@@ -62,32 +62,6 @@ low-m n y = go (decLt y 18446744073709551616)
         rw (lt-leb y 18446744073709551615 (omega (arith, h))) (large (inRangeN n) refl f)
 
 module _ (text : List ℕ) where
-  pub outside-none : length text ≤ placeOf newline text → outside text ≡ 1
-  unfolding outside
-  outside-none h = rw (le-leb (length text) (placeOf newline text) h)
-
-  pub outside-head : headFine (lineOne text) ≡ false → outside text ≡ 1
-  unfolding outside
-  outside-head h = rw h (go (leb (length text) (placeOf newline text)))
-    where
-      go : (t : Bool) → _≡_ {A = ℕ} (cond t 1 1) 1
-      go true = refl
-      go false = refl
-
-  pub outside-further : placeOf newline text < length text → headFine (lineOne text) ≡ true → outside text ≡ firstOutside 2 (further text)
-  unfolding outside
-  outside-further h k = rw (lt-leb (length text) (placeOf newline text) h, k)
-
-  -- a text with no line outside the form has its first newline
-  pub newline-there : outside text ≡ 0 → placeOf newline text < length text
-  newline-there e = go (decLt (placeOf newline text) (length text))
-    where
-      go : Dec (placeOf newline text < length text) → placeOf newline text < length text
-      go (yes l) = l
-      go (no g) =
-          let one : outside text ≡ 1 = outside-none (omega (arith, g)) in
-          absurd (omega (arith, e, one))
-
   pub scanned-outside : (line : ℕ) → outside text ≡ line → (line ≡ 0 → ⊥) → scannedOf text ≡ passedOver 25 line
   unfolding scannedOf textNumber
   scanned-outside line e h = rw (e, ne-eqb line 0 h)

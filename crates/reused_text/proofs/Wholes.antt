@@ -13,16 +13,17 @@ use Rattle.log.proofs.Laws.{head-length, log-length, laid-fits, laid-short, tai
 use Rattle.text.specs.Lines.{newline}
 use Rattle.writer.specs.Form.{placeOf}
 use Rattle.writer.specs.Parts.{entriesFrom}
+use Rattle.writer.proofs.Whole.{newline-there}
 use Rattle.reused.specs.State.{startOf}
 use Rattle.reused.specs.Frame.{Ready}
 use Rattle.reused.specs.Run.{notes, changeCount}
 use Rattle.reused.proofs.Soundness.{sizes-fine, sizes-of}
 use Rattle.reused.proofs.RunLaws.{ready-start, notes-length}
 use Rattle.reused_text.specs.Types.{State, Started, Entry, Version, Note, Scanned}
-use Rattle.reused_text.specs.Form.{textN, textM, textEntries, textNumber}
+use Rattle.reused_text.specs.Form.{headFine, lineFine, textN, textM, textEntries, textNumber}
 use Rattle.reused_text.specs.Parts.{bitEntriesFrom, within, scannedOf}
 use Rattle.reused_text.specs.Played.{inLog, textNotes, textLog, ranNot, ranOf, logAfter, changesFrom, recordsFrom}
-use Rattle.reused_text.proofs.Texts.{newline-there, number-parts, scanned-refused, scanned-accepted, scanned-number}
+use Rattle.reused_text.proofs.Texts.{number-parts, scanned-refused, scanned-accepted, scanned-number}
 
 -- Head, records and the rest of the log.
 module _ (st : State) (es : List Entry) (n c : ℕ) (long : c ≡ length es) (log : List ℕ) (room : logLength c ≤ length log)
@@ -80,7 +81,7 @@ module _ (text : List ℕ) (z : textNumber text ≡ 0) where
   few-entries = number-parts text z .2
 
   pub begins : placeOf newline text + 1 ≤ length text
-  begins = omega (arith, newline-there text (number-parts text z .0))
+  begins = omega (arith, newline-there headFine lineFine text (number-parts text z .0))
 
   -- its entries are those of the lines behind line one
   pub entries-are : bitEntriesFrom text (placeOf newline text + 1) ≡ textEntries text

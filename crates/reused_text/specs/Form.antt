@@ -1,16 +1,16 @@
 -- Document 02, P9, played from a text: line one is `H N M`, each further line `L p`, `S p bit`, `V p` or `T p` in the form of P1. What lies
 -- outside this form, and what a text within it says.
-use Prim.Native.Nat.{ℕ, _+_}
-use mathlib.Core.Bool.{Bool, true, cond, _&&_}
-use mathlib.Core.List.{List, [], _∷_, map}
+use Prim.Native.Nat.{ℕ}
+use mathlib.Core.Bool.{Bool, true, _&&_}
+use mathlib.Core.List.{List, map}
 use lib.Dec.{eqb, leb}
 use lib.ListN.{length}
 use Rattle.numbers.specs.Numbers.{numberUnless, firstFound}
 use Rattle.text.specs.Decimal.{said}
-use Rattle.text.specs.Lines.{space, newline}
+use Rattle.text.specs.Lines.{space}
 use Rattle.writer.specs.Form as p1
 use Rattle.reused_text.specs.Asked as asked
-use Rattle.writer.specs.Form.{placeOf, behind, isNumeral, opensWith, fields, fieldN, lineOne, further}
+use Rattle.writer.specs.Form.{behind, isNumeral, opensWith, fields, fieldN, lineOne}
 use Rattle.reused.specs.Circle.{sizesNumber}
 use Rattle.reused_text.specs.Types.{Entry, Kind, Ask, Step, Request, Load, Store, Check}
 
@@ -48,18 +48,9 @@ kindIn asked.Step = Step
 abbrev pub entryIn : asked.Entry → Entry
 entryIn e = record { process = e .process; kind = kindIn (e .kind) }
 
--- The first line outside the form among further ones, the first of which has number k; 0 where there is none. What stands behind the
--- last newline has none of its own: nothing may stand there.
-unfoldable pub firstOutside : ℕ → List (List ℕ) → ℕ
-firstOutside k [] = 0
-firstOutside k (left ∷ []) = cond (eqb (length left) 0) 0 k
-firstOutside k (line ∷ next ∷ more) = cond (lineFine line) (firstOutside (k + 1) (next ∷ more)) k
-
 -- P1: "25 with the number of the first line outside this form (line 1 for empty input ..)"; 0 where there is none
-unfoldable pub outside : List ℕ → ℕ
-outside text =
-    cond (leb (length text) (placeOf newline text)) 1
-    (cond (headFine (lineOne text)) (firstOutside 2 (further text)) 1)
+abbrev pub outside : List ℕ → ℕ
+outside text = p1.outsideBy headFine lineFine text
 
 -- what a text says
 abbrev pub textN : List ℕ → ℕ

@@ -8,10 +8,10 @@ use Rattle.numbers.specs.Numbers.{numberUnless, firstFound}
 use Rattle.text.specs.Lines.{newline}
 use Rattle.writer.specs.Form as p1
 use Rattle.writer.specs.Form.{placeOf, fieldN}
-use Rattle.writer.specs.Parts.{numeralOf, entriesFrom}
+use Rattle.writer.specs.Parts.{numeralOf, entriesFrom, overLinesBy}
 use Rattle.reused.specs.Circle.{sizesNumber}
 use Rattle.reused_text.specs.Types.{Entry, Lines, Numeral, BitLine, Scanned, Sizes}
-use Rattle.reused_text.specs.Form.{fieldM, headFine, lineFine, entryIn, firstOutside, outside, textN, textM, textEntries, textNumber}
+use Rattle.reused_text.specs.Form.{fieldM, headFine, lineFine, entryIn, outside, textN, textM, textEntries, textNumber}
 
 unfoldable pub bitLineOf : List ℕ → BitLine
 bitLineOf line = record { fine = lineFine line; entry = entryIn (p1.entryIn line) }
@@ -31,10 +31,9 @@ sizesOf line =
 abbrev pub bitEntriesFrom : List ℕ → ℕ → List Entry
 bitEntriesFrom text at = map entryIn (entriesFrom text at)
 
--- what lines come to, the first of which has number k, behind e entries: the first line outside the form, or how many entries
-unfoldable pub overLines : ℕ → ℕ → List (List ℕ) → Lines
-overLines k e ls =
-    cond (eqb (firstOutside k ls) 0) (record { line = 0; entries = e + length (p1.entriesIn ls) }) (record { line = firstOutside k ls; entries = 0 })
+-- what lines come to, the first of which has number k, behind e entries
+abbrev pub overLines : ℕ → ℕ → List (List ℕ) → Lines
+overLines k e ls = overLinesBy lineFine k e ls
 
 -- the whole text
 abbrev pub passedOver : ℕ → ℕ → Scanned

@@ -13,7 +13,7 @@ use Rattle.numbers.specs.Numbers.{inRangeN, inRangeS, numberUnless, firstFound}
 use Rattle.log.specs.Log.{laid}
 use Rattle.log.proofs.Laws.{laid-short}
 use Rattle.writer.specs.Types.{Scanned, Written}
-use Rattle.writer.specs.Form.{outside, textN, textS, textV, textEntries}
+use Rattle.writer.specs.Form.{outside, textN, textS, textV, textEntries, headFine, lineFine}
 use Rattle.writer.specs.Made.{blocksFor, fileMade}
 use Rattle.writer.specs.Parts.{entriesFrom, within, scannedOf}
 use Rattle.writer.specs.Writer.{textNumber, textFile, turned, writtenOf, writtenIn}
@@ -41,7 +41,7 @@ accepted-scan text told e h = rw (e ∙ scanned-accepted text fine) known
     known =
         record {
           fine = fine;
-          within = omega (arith, newline-there text (number-parts text fine .0));
+          within = omega (arith, newline-there headFine lineFine text (number-parts text fine .0));
           count = refl;
           few = number-parts text fine .1 .1;
           file = refl;

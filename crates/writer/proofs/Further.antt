@@ -2,7 +2,7 @@
 -- Assumes nothing.
 use Prim.Native.Nat.{ℕ, suc, _+_, _-_, _≤_, _<_}
 use mathlib.Core.Path.{_≡_, refl, ap, _∙_}
-use mathlib.Core.Bool.{true, false, cond}
+use mathlib.Core.Bool.{Bool, true, false, cond}
 use mathlib.Core.List.{List, [], _∷_}
 use native.Mathlib.Nat.{add-zero}
 use native.Mathlib.Decide.{decLt}
@@ -13,8 +13,8 @@ use lib.ListN.{length, take, drop, length-drop, drop-of-length-le}
 use lib.Seq.{drop-drop}
 use Rattle.text.specs.Lines.{newline}
 use Rattle.writer.specs.Types.{Lines}
-use Rattle.writer.specs.Form.{placeOf, parts, lineFine, entryIn, firstOutside, entriesIn}
-use Rattle.writer.specs.Parts.{linesFrom, entriesFrom, overLines}
+use Rattle.writer.specs.Form.{placeOf, parts, entryIn, firstOutsideBy, entriesIn}
+use Rattle.writer.specs.Parts.{linesFrom, entriesFrom, overLinesBy}
 use Rattle.writer.proofs.Apart.{some-part}
 use Rattle.writer.proofs.Places.{parts-first, parts-none}
 
@@ -32,33 +32,33 @@ module _ (text : List ℕ) (at end : ℕ) (e : end ≡ at + placeOf newline (dro
   lines-left h = parts-none newline (drop at text) (rw length-drop (omega (arith, e, h)))
 
 -- what lines come to: one more in the form, one outside it, one without its newline, and none
-module _ (k e : ℕ) where
-  pub over-next : (line l : List ℕ) → lineFine line ≡ true → overLines k e (line ∷ parts newline l) ≡ overLines (k + 1) (e + 1) (parts newline l)
-  unfolding overLines firstOutside entriesIn
-  over-next line l h = some-part newline (λ ls. overLines k e (line ∷ ls) ≡ overLines (k + 1) (e + 1) ls) (λ part more. one part more) l
+module _ (fine : List ℕ → Bool) (k e : ℕ) where
+  pub over-next : (line l : List ℕ) → fine line ≡ true → overLinesBy fine k e (line ∷ parts newline l) ≡ overLinesBy fine (k + 1) (e + 1) (parts newline l)
+  unfolding overLinesBy firstOutsideBy entriesIn
+  over-next line l h = some-part newline (λ ls. overLinesBy fine k e (line ∷ ls) ≡ overLinesBy fine (k + 1) (e + 1) ls) (λ part more. one part more) l
     where
-      one : (part : List ℕ) (more : List (List ℕ)) → overLines k e (line ∷ part ∷ more) ≡ overLines (k + 1) (e + 1) (part ∷ more)
+      one : (part : List ℕ) (more : List (List ℕ)) → overLinesBy fine k e (line ∷ part ∷ more) ≡ overLinesBy fine (k + 1) (e + 1) (part ∷ more)
       one part more =
           let count : e + suc (length (entriesIn (part ∷ more))) ≡ e + 1 + length (entriesIn (part ∷ more)) = omega arith in
           rw (h, count)
 
-  pub over-outside : 0 < k → (line l : List ℕ) → lineFine line ≡ false → overLines k e (line ∷ parts newline l) ≡ record { line = k; entries = 0 }
-  unfolding overLines firstOutside
+  pub over-outside : 0 < k → (line l : List ℕ) → fine line ≡ false → overLinesBy fine k e (line ∷ parts newline l) ≡ record { line = k; entries = 0 }
+  unfolding overLinesBy firstOutsideBy
   over-outside p line l h =
-      some-part newline (λ ls. overLines k e (line ∷ ls) ≡ record { line = k; entries = 0 }) (λ part more. rw (h, ne-eqb k 0 (λ q. omega (arith, p, q)))) l
+      some-part newline (λ ls. overLinesBy fine k e (line ∷ ls) ≡ record { line = k; entries = 0 }) (λ part more. rw (h, ne-eqb k 0 (λ q. omega (arith, p, q)))) l
 
-  pub over-left : 0 < k → (left : List ℕ) → 0 < length left → overLines k e (left ∷ []) ≡ record { line = k; entries = 0 }
-  unfolding overLines firstOutside
+  pub over-left : 0 < k → (left : List ℕ) → 0 < length left → overLinesBy fine k e (left ∷ []) ≡ record { line = k; entries = 0 }
+  unfolding overLinesBy firstOutsideBy
   over-left p left h = rw (ne-eqb (length left) 0 (λ q. omega (arith, h, q)), ne-eqb k 0 (λ q. omega (arith, p, q)))
 
-  pub over-end : (text : List ℕ) (at : ℕ) → length text ≤ at → overLines k e (linesFrom text at) ≡ record { line = 0; entries = e }
-  unfolding overLines firstOutside parts entriesIn
+  pub over-end : (text : List ℕ) (at : ℕ) → length text ≤ at → overLinesBy fine k e (linesFrom text at) ≡ record { line = 0; entries = e }
+  unfolding overLinesBy firstOutsideBy parts entriesIn
   over-end text at h = rw (drop-of-length-le text h, add-zero e)
 
 -- the two numbers of it
-pub over-line : (k e : ℕ) (ls : List (List ℕ)) → overLines k e ls .line ≡ firstOutside k ls
-unfolding overLines
-over-line k e ls = go (firstOutside k ls) (decLt 0 (firstOutside k ls))
+pub over-line : (fine : List ℕ → Bool) (k e : ℕ) (ls : List (List ℕ)) → overLinesBy fine k e ls .line ≡ firstOutsideBy fine k ls
+unfolding overLinesBy
+over-line fine k e ls = go (firstOutsideBy fine k ls) (decLt 0 (firstOutsideBy fine k ls))
   where
     which : ℕ → Lines
     which n = cond (eqb n 0) (record { line = 0; entries = e + length (entriesIn ls) }) (record { line = n; entries = 0 })
@@ -69,9 +69,9 @@ over-line k e ls = go (firstOutside k ls) (decLt 0 (firstOutside k ls))
         let z : n ≡ 0 = omega (arith, h) in
         rw z
 
-pub over-count : (k e : ℕ) (ls : List (List ℕ)) → firstOutside k ls ≡ 0 → overLines k e ls .entries ≡ e + length (entriesIn ls)
-unfolding overLines
-over-count k e ls h = rw h
+pub over-count : (fine : List ℕ → Bool) (k e : ℕ) (ls : List (List ℕ)) → firstOutsideBy fine k ls ≡ 0 → overLinesBy fine k e ls .entries ≡ e + length (entriesIn ls)
+unfolding overLinesBy
+over-count fine k e ls h = rw h
 
 -- the entries from a place on: the first, and those behind it
 module _ (text : List ℕ) (at end : ℕ) (e : end ≡ at + placeOf newline (drop at text)) where

@@ -11,7 +11,7 @@ use Rattle.text.specs.Decimal.{decimalOf}
 use Rattle.text.specs.Lines.{space, newline}
 use Rattle.text.proofs.Digits.{decimal-said}
 use Rattle.writer.specs.Types.{Entry}
-use Rattle.writer.specs.Form.{placeOf, behind, parts, fields, fieldN, fieldS, fieldV, headFine, lineFine, entryIn, lineOne, further, firstOutside, outside, entriesIn, textN, textS, textV, textEntries}
+use Rattle.writer.specs.Form.{placeOf, behind, parts, fields, fieldN, fieldS, fieldV, headFine, lineFine, entryIn, lineOne, further, firstOutside, outside, entriesIn, textN, textS, textV, textEntries, firstOutsideBy, outsideBy}
 use Rattle.writer.specs.Made.{startLine, entryLines, textMade}
 use Rattle.writer.proofs.Small.{AllSmall}
 use Rattle.writer.proofs.Apart.{Lacks, place-within, before-it, behind-it, parts-next, some-part}
@@ -21,7 +21,7 @@ use Rattle.writer.proofs.EntryLines.{bare, line-ended, bare-lacks, line
 -- one line more before the parts of a text
 outside-next : (k : ℕ) (line rest : List ℕ)
     → firstOutside k (line ∷ parts newline rest) ≡ cond (lineFine line) (firstOutside (k + 1) (parts newline rest)) k
-unfolding firstOutside
+unfolding firstOutsideBy
 outside-next k line rest =
     some-part newline (λ ls. firstOutside k (line ∷ ls) ≡ cond (lineFine line) (firstOutside (k + 1) ls) k) (λ part more. refl) rest
 
@@ -35,7 +35,7 @@ unfolding entryLines
 lines-next e es = rw (line-ended e (entryLines es)) (parts-next newline (bare e) (entryLines es) (bare-lacks e))
 
 lines-fine : (k : ℕ) (es : List Entry) → AllSmall es → firstOutside k (parts newline (entryLines es)) ≡ 0
-unfolding entryLines parts firstOutside
+unfolding entryLines parts firstOutsideBy
 lines-fine k [] h = refl
 lines-fine k (e ∷ es) h =
     rw (lines-next e es, outside-next k (bare e) (entryLines es), line-fine e (h 0)) (lines-fine (k + 1) es (λ j. h (suc j)))
@@ -98,7 +98,7 @@ module _ (n s v : ℕ) where
           )
 
       pub text-outside : outside (textMade n s v es) ≡ 0
-      unfolding outside
+      unfolding outsideBy
       text-outside =
           rw (lt-leb (length (textMade n s v es)) (placeOf newline (textMade n s v es)) start-ended, line-one, start-fine, further-lines)
           (lines-fine 2 es small)

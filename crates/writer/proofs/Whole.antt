@@ -13,7 +13,7 @@ use Rattle.numbers.specs.Numbers.{numberUnless, firstFound, rangeNumber}
 use Rattle.text.specs.Decimal.{said}
 use Rattle.text.specs.Lines.{newline}
 use Rattle.writer.specs.Types.{Opening, Scanned}
-use Rattle.writer.specs.Form.{placeOf, headFine, fieldN, fieldS, fieldV, lineOne, further, firstOutside, outside, textN, textS, textV, textEntries}
+use Rattle.writer.specs.Form.{placeOf, headFine, fieldN, fieldS, fieldV, lineOne, further, firstOutsideBy, outsideBy, outside, textN, textS, textV, textEntries}
 use Rattle.writer.specs.Writer.{textNumber}
 use Rattle.writer.specs.Parts.{noStart, openingOf, passedOver, judged, within, scannedOf}
 
@@ -32,33 +32,35 @@ opening-fine line = go (headFine line) (eqb number 0)
     go true false = refl
     go true true = refl
 
-module _ (text : List ℕ) where
-  pub outside-none : length text ≤ placeOf newline text → outside text ≡ 1
-  unfolding outside
+-- by any form of line one and of further lines
+module _ (headed fine : List ℕ → Bool) (text : List ℕ) where
+  pub outside-none : length text ≤ placeOf newline text → outsideBy headed fine text ≡ 1
+  unfolding outsideBy
   outside-none h = rw (le-leb (length text) (placeOf newline text) h)
 
-  pub outside-head : headFine (lineOne text) ≡ false → outside text ≡ 1
-  unfolding outside
+  pub outside-head : headed (lineOne text) ≡ false → outsideBy headed fine text ≡ 1
+  unfolding outsideBy
   outside-head h = rw h (go (leb (length text) (placeOf newline text)))
     where
       go : (t : Bool) → _≡_ {A = ℕ} (cond t 1 1) 1
       go true = refl
       go false = refl
 
-  pub outside-further : placeOf newline text < length text → headFine (lineOne text) ≡ true → outside text ≡ firstOutside 2 (further text)
-  unfolding outside
+  pub outside-further : placeOf newline text < length text → headed (lineOne text) ≡ true → outsideBy headed fine text ≡ firstOutsideBy fine 2 (further text)
+  unfolding outsideBy
   outside-further h k = rw (lt-leb (length text) (placeOf newline text) h, k)
 
   -- a text with no line outside the form has its first newline
-  pub newline-there : outside text ≡ 0 → placeOf newline text < length text
+  pub newline-there : outsideBy headed fine text ≡ 0 → placeOf newline text < length text
   newline-there e = go (decLt (placeOf newline text) (length text))
     where
       go : Dec (placeOf newline text < length text) → placeOf newline text < length text
       go (yes l) = l
       go (no g) =
-          let one : outside text ≡ 1 = outside-none (omega (arith, g)) in
+          let one : outsideBy headed fine text ≡ 1 = outside-none (omega (arith, g)) in
           absurd (omega (arith, e, one))
 
+module _ (text : List ℕ) where
   pub scanned-outside : (line : ℕ) → outside text ≡ line → (line ≡ 0 → ⊥) → scannedOf text ≡ passedOver 25 line
   unfolding scannedOf textNumber
   scanned-outside line e h = rw (e, ne-eqb line 0 h)

@@ -13,7 +13,7 @@ use Rattle.numbers.proofs.First.{found-both, unless-fine, range-zero, range-in}
 use Rattle.text.specs.Decimal.{said}
 use Rattle.text.specs.Lines.{space, newline}
 use Rattle.schedule.specs.File.{noEntry}
-use Rattle.writer.specs.Form.{before, behind, placeOf, isNumeral, isUpTo, isProcess, isValue, opensWith, fields, fieldN, fieldS, fieldV, headFine, plainFine, storeFine, lineFine, asked, entryIn, lineOne, further, firstOutside, outside, entriesIn, textN, textS, textV, textEntries}
+use Rattle.writer.specs.Form.{before, behind, placeOf, isNumeral, isUpTo, isProcess, isValue, opensWith, fields, fieldN, fieldS, fieldV, headFine, plainFine, storeFine, lineFine, asked, entryIn, lineOne, further, firstOutside, outside, entriesIn, textN, textS, textV, textEntries, outsideBy}
 use Rattle.writer.specs.Writer.{textNumber}
 use Rattle.writer.proofs.Small.{Small, AllSmall, none-small, small-cond}
 
@@ -61,7 +61,7 @@ entries-small (line ∷ next ∷ more) (suc j) = entries-small (next ∷ more) j
 
 -- V of a text within the form is below 2^64
 pub value-small : (text : List ℕ) → outside text ≡ 0 → textV text < 18446744073709551616
-unfolding outside headFine
+unfolding outsideBy headFine
 value-small text h =
     let line = lineOne text in
     let v = go (leb (length text) (placeOf newline text)) (headFine line) h in

@@ -4,13 +4,13 @@ use mathlib.Core.Path.{refl}
 use Rattle.text.specs.Decimal.{digitsOf, decimalOf, saidFrom}
 use Rattle.schedule.specs.File.{checkOf}
 use Rattle.schedule.specs.WorkedFile.{workedFile, workedEntries}
-use Rattle.writer.specs.Form.{placeOf, parts, allDigits, front, headFine, lineFine, entryIn, firstOutside, outside, entriesIn}
+use Rattle.writer.specs.Form.{placeOf, parts, allDigits, front, headFine, lineFine, entryIn, firstOutsideBy, outsideBy, entriesIn}
 use Rattle.writer.specs.Made.{entryMade, entriesMade, sealed, firstMade, laterMade, packed, fileMade, startLine, entryLine, entryLines, textMade}
 use Rattle.writer.specs.Writer.{textNumber, writtenOf}
 use Rattle.writer.specs.WorkedText.{TextRun}
 
 pub text-run : TextRun
-unfolding digitsOf decimalOf saidFrom checkOf workedFile workedEntries placeOf parts allDigits front headFine lineFine entryIn firstOutside outside entriesIn entryMade entriesMade sealed firstMade laterMade packed fileMade startLine entryLine entryLines textMade textNumber writtenOf
+unfolding digitsOf decimalOf saidFrom checkOf workedFile workedEntries placeOf parts allDigits front headFine lineFine entryIn firstOutsideBy outsideBy entriesIn entryMade entriesMade sealed firstMade laterMade packed fileMade startLine entryLine entryLines textMade textNumber writtenOf
 text-run =
     record {
       accepted = refl;

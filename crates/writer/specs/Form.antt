@@ -103,18 +103,25 @@ lineOne text = before newline text
 abbrev pub further : List ℕ → List (List ℕ)
 further text = parts newline (behind newline text)
 
--- The first line outside the form among further ones, the first of which has number k; 0 where there is none. What stands behind the
--- last newline has none of its own: nothing may stand there.
-unfoldable pub firstOutside : ℕ → List (List ℕ) → ℕ
-firstOutside k [] = 0
-firstOutside k (left ∷ []) = cond (eqb (length left) 0) 0 k
-firstOutside k (line ∷ next ∷ more) = cond (lineFine line) (firstOutside (k + 1) (next ∷ more)) k
+-- The first line outside a form among further ones, the first of which has number k; 0 where there is none. `fine` says which lines are in
+-- the form. What stands behind the last newline has none of its own: nothing may stand there.
+unfoldable pub firstOutsideBy : (List ℕ → Bool) → ℕ → List (List ℕ) → ℕ
+firstOutsideBy fine k [] = 0
+firstOutsideBy fine k (left ∷ []) = cond (eqb (length left) 0) 0 k
+firstOutsideBy fine k (line ∷ next ∷ more) = cond (fine line) (firstOutsideBy fine (k + 1) (next ∷ more)) k
 
--- "25 with the number of the first line outside this form (line 1 for empty input ..)"; 0 where there is none
-unfoldable pub outside : List ℕ → ℕ
-outside text =
+abbrev pub firstOutside : ℕ → List (List ℕ) → ℕ
+firstOutside k ls = firstOutsideBy lineFine k ls
+
+-- "25 with the number of the first line outside this form (line 1 for empty input ..)"; 0 where there is none. `head` says whether line one
+-- is in the form.
+unfoldable pub outsideBy : (List ℕ → Bool) → (List ℕ → Bool) → List ℕ → ℕ
+outsideBy head fine text =
     cond (leb (length text) (placeOf newline text)) 1
-    (cond (headFine (lineOne text)) (firstOutside 2 (further text)) 1)
+    (cond (head (lineOne text)) (firstOutsideBy fine 2 (further text)) 1)
+
+abbrev pub outside : List ℕ → ℕ
+outside text = outsideBy headFine lineFine text
 
 -- the entries that further lines ask for, in order
 unfoldable pub entriesIn : List (List ℕ) → List Entry

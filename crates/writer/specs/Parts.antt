@@ -1,6 +1,6 @@
 -- What the inner functions promise: a numeral, a line, and a text as far as the writer goes through it before it writes.
 use Prim.Native.Nat.{ℕ, _+_}
-use mathlib.Core.Bool.{true, false, cond, _&&_}
+use mathlib.Core.Bool.{Bool, true, false, cond, _&&_}
 use mathlib.Core.List.{List}
 use lib.Dec.{eqb, leb}
 use lib.ListN.{length, drop}
@@ -9,7 +9,7 @@ use Rattle.schedule.specs.File.{noEntry}
 use Rattle.text.specs.Decimal.{said}
 use Rattle.text.specs.Lines.{newline}
 use Rattle.writer.specs.Types.{Entry, Line, Lines, Numeral, Opening, Scanned}
-use Rattle.writer.specs.Form.{placeOf, parts, isNumeral, isValue, isProcess, headFine, fieldN, fieldS, fieldV, lineFine, entryIn, firstOutside, outside, entriesIn, textN, textS, textV, textEntries}
+use Rattle.writer.specs.Form.{placeOf, parts, isNumeral, isValue, isProcess, headFine, fieldN, fieldS, fieldV, lineFine, entryIn, firstOutsideBy, outside, entriesIn, textN, textS, textV, textEntries}
 use Rattle.writer.specs.Writer.{textNumber}
 
 -- whether bytes are a numeral, whether one below 2^64, and then which number
@@ -50,9 +50,13 @@ unfoldable pub entriesFrom : List ℕ → ℕ → List Entry
 entriesFrom text at = entriesIn (linesFrom text at)
 
 -- what lines come to, the first of which has number k, behind e entries: the first line outside the form, or how many entries
-unfoldable pub overLines : ℕ → ℕ → List (List ℕ) → Lines
-overLines k e ls =
-    cond (eqb (firstOutside k ls) 0) (record { line = 0; entries = e + length (entriesIn ls) }) (record { line = firstOutside k ls; entries = 0 })
+unfoldable pub overLinesBy : (List ℕ → Bool) → ℕ → ℕ → List (List ℕ) → Lines
+overLinesBy fine k e ls =
+    cond (eqb (firstOutsideBy fine k ls) 0) (record { line = 0; entries = e + length (entriesIn ls) })
+    (record { line = firstOutsideBy fine k ls; entries = 0 })
+
+abbrev pub overLines : ℕ → ℕ → List (List ℕ) → Lines
+overLines k e ls = overLinesBy lineFine k e ls
 
 -- the whole text
 abbrev pub passedOver : ℕ → ℕ → Scanned

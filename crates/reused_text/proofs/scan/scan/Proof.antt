@@ -13,11 +13,12 @@ use Rattle.writer.specs.Form as p1
 use Rattle.writer.specs.Form.{placeOf, lineOne, further}
 use Rattle.writer.specs.Parts.{linesFrom}
 use Rattle.writer.proofs.Fields.{part-before}
-use Rattle.reused_text.specs.Form.{headFine, outside, textEntries}
+use Rattle.writer.proofs.Further.{over-line, over-count}
+use Rattle.writer.proofs.Whole.{outside-none, outside-head, outside-further}
+use Rattle.reused_text.specs.Form.{headFine, lineFine, outside, textEntries}
 use Rattle.reused_text.specs.Parts.{sizesOf, overLines}
 use Rattle.reused_text.proofs.Heads.{end-most, sizes-fine}
-use Rattle.reused_text.proofs.Onward.{over-line, over-count}
-use Rattle.reused_text.proofs.Texts.{outside-none, outside-head, outside-further, scanned-outside, scanned-judged}
+use Rattle.reused_text.proofs.Texts.{scanned-outside, scanned-judged}
 use Rattle.reused_text.proofs.scan.scan.Statement.{statement}
 use Rattle.reused_text.proofs.scan.scan.Tie as tie
 
@@ -42,7 +43,7 @@ returns : tie.Need-returns
 returns c =
     let text = now (c .before .before .before .before .args .text) in
     c .pass-over .ensures
-    ∙ sym (scanned-outside text 1 (outside-none text (omega (arith, place (c .before .before), c .before .if1 .taken))) one-not-none)
+    ∙ sym (scanned-outside text 1 (outside-none headFine lineFine text (omega (arith, place (c .before .before), c .before .if1 .taken))) one-not-none)
 
 sub-read-sizes : tie.Need-sub-read-sizes
 sub-read-sizes c = search needs
@@ -82,8 +83,8 @@ found : (c : tie.After-scan-lines) → c .scan-lines .result .line ≡ outside (
 found c =
     let text = now (c .before .before .before .before .before .before .before .args .text) in
     let there : placeOf newline text < length text = omega (arith, place (c .before .before .before .before .before), within (c .before .before)) in
-    rw (rest c) (over-line 2 0 (further text))
-    ∙ sym (outside-further text there (sym (head (c .before .before)) ∙ c .before .if2 .taken))
+    rw (rest c) (over-line lineFine 2 0 (further text))
+    ∙ sym (outside-further headFine lineFine text there (sym (head (c .before .before)) ∙ c .before .if2 .taken))
 
 pass-over-requires-2 : tie.Need-pass-over-requires-2
 pass-over-requires-2 c κs = search needs
@@ -103,7 +104,7 @@ returns-3 c =
     let fine : headFine (lineOne text) ≡ true = sym (head (c .before .before .before .before)) ∙ c .before .before .before .if2 .taken in
     let there : placeOf newline text < length text = omega (arith, place (c .before .before .before .before .before .before .before), within (c .before .before .before .before)) in
     let count : c .before .before .scan-lines .result .entries ≡ length (textEntries text) =
-    rw (rest (c .before .before), length-map) (over-count 2 0 (further text) (sym (outside-further text there fine) ∙ none) ∙ zero-add (length (p1.textEntries text))) in
+    rw (rest (c .before .before), length-map) (over-count lineFine 2 0 (further text) (sym (outside-further headFine lineFine text there fine) ∙ none) ∙ zero-add (length (p1.textEntries text))) in
     let one = first (c .before .before .before .before) in
     let at = place (c .before .before .before .before .before .before .before) in
     c .judge .ensures ∙ rw (one, at, count) (sym (scanned-judged text none fine))
@@ -115,7 +116,7 @@ returns-4 : tie.Need-returns-4
 returns-4 c =
     let text = now (c .before .before .before .before .before .before .before .args .text) in
     c .pass-over3 .ensures
-    ∙ sym (scanned-outside text 1 (outside-head text (sym (head (c .before .before)) ∙ c .before .if2 .left)) one-not-none)
+    ∙ sym (scanned-outside text 1 (outside-head headFine lineFine text (sym (head (c .before .before)) ∙ c .before .if2 .left)) one-not-none)
 
 pub scan-spec : {M : Type 1} → statement M
 scan-spec =

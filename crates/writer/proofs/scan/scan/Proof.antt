@@ -9,7 +9,7 @@ use native.Mathlib.Omega.{arith}
 use denote.Ref.{now}
 use lib.ListN.{length}
 use Rattle.text.specs.Lines.{newline}
-use Rattle.writer.specs.Form.{placeOf, headFine, lineOne, further, outside, textEntries}
+use Rattle.writer.specs.Form.{placeOf, headFine, lineFine, lineOne, further, outside, textEntries}
 use Rattle.writer.specs.Parts.{openingOf, linesFrom, overLines}
 use Rattle.writer.proofs.Fields.{part-before}
 use Rattle.writer.proofs.Further.{over-line, over-count}
@@ -34,7 +34,7 @@ returns : tie.Need-returns
 returns c =
     let text = now (c .before .before .before .before .args .text) in
     c .pass-over .ensures
-    ∙ sym (scanned-outside text 1 (outside-none text (omega (arith, place (c .before .before), c .before .if1 .taken))) one-not-none)
+    ∙ sym (scanned-outside text 1 (outside-none headFine lineFine text (omega (arith, place (c .before .before), c .before .if1 .taken))) one-not-none)
 
 sub-read-start : tie.Need-sub-read-start
 sub-read-start c = search needs
@@ -74,8 +74,8 @@ found : (c : tie.After-scan-lines) → c .scan-lines .result .line ≡ outside (
 found c =
     let text = now (c .before .before .before .before .before .before .before .args .text) in
     let there : placeOf newline text < length text = omega (arith, place (c .before .before .before .before .before), within (c .before .before)) in
-    rw (rest c) (over-line 2 0 (further text))
-    ∙ sym (outside-further text there (sym (head (c .before .before)) ∙ c .before .if2 .taken))
+    rw (rest c) (over-line lineFine 2 0 (further text))
+    ∙ sym (outside-further headFine lineFine text there (sym (head (c .before .before)) ∙ c .before .if2 .taken))
 
 pass-over-requires-2 : tie.Need-pass-over-requires-2
 pass-over-requires-2 c κs = search needs
@@ -95,7 +95,7 @@ returns-3 c =
     let fine : headFine (lineOne text) ≡ true = sym (head (c .before .before .before .before)) ∙ c .before .before .before .if2 .taken in
     let there : placeOf newline text < length text = omega (arith, place (c .before .before .before .before .before .before .before), within (c .before .before .before .before)) in
     let count : c .before .before .scan-lines .result .entries ≡ length (textEntries text) =
-    rw (rest (c .before .before)) (over-count 2 0 (further text) (sym (outside-further text there fine) ∙ none) ∙ zero-add (length (textEntries text))) in
+    rw (rest (c .before .before)) (over-count lineFine 2 0 (further text) (sym (outside-further headFine lineFine text there fine) ∙ none) ∙ zero-add (length (textEntries text))) in
     let one = first (c .before .before .before .before) in
     let at = place (c .before .before .before .before .before .before .before) in
     c .judge .ensures ∙ rw (one, at, count) (sym (scanned-judged text none fine))
@@ -107,7 +107,7 @@ returns-4 : tie.Need-returns-4
 returns-4 c =
     let text = now (c .before .before .before .before .before .before .before .args .text) in
     c .pass-over3 .ensures
-    ∙ sym (scanned-outside text 1 (outside-head text (sym (head (c .before .before)) ∙ c .before .if2 .left)) one-not-none)
+    ∙ sym (scanned-outside text 1 (outside-head headFine lineFine text (sym (head (c .before .before)) ∙ c .before .if2 .left)) one-not-none)
 
 pub scan-spec : {M : Type 1} → statement M
 scan-spec =

@@ -37,7 +37,7 @@ returns c =
     let end = c .before .place-from in
     let some : 0 < length (drop at text) = rw length-drop (omega (arith, c .before .before .loop-test .taken)) in
     let left = lines-left text at (end .result) (end .ensures .0) (omega (arith, c .if1 .taken)) in
-    sym (c .before .before .before .loop .inv .2 ∙ ap (overLines (entries + 2) entries) left ∙ over-left (entries + 2) entries (omega arith) (drop at text) some)
+    sym (c .before .before .before .loop .inv .2 ∙ ap (overLines (entries + 2) entries) left ∙ over-left lineFine (entries + 2) entries (omega arith) (drop at text) some)
 
 sub-read-line : tie.Need-sub-read-line Inv-loop μ-loop
 sub-read-line c = omega (arith, c .before .place-from .ensures .0)
@@ -78,7 +78,7 @@ loop-again c =
       omega (arith, end .ensures .0, c .before .before .before .before .before .before .loop .inv .1),
       c .before .before .before .before .before .before .loop .inv .2
           ∙ ap (overLines (entries + 2) entries) (lines-next text at (end .result) (end .ensures .0) within)
-          ∙ over-next (entries + 2) entries line (drop (end .result + 1) text) fine
+          ∙ over-next lineFine (entries + 2) entries line (drop (end .result + 1) text) fine
           ∙ ap (λ (k : ℕ). overLines k (entries + 1) (linesFrom text (end .result + 1))) (sym number),
     )
 
@@ -95,12 +95,12 @@ returns-2 c =
     let not-fine = line-fine-is line (c .before .read-line .ensures) ∙ c .if2 .left in
     sym (c .before .before .before .before .before .before .loop .inv .2
     ∙ ap (overLines (entries + 2) entries) (lines-next text at (end .result) (end .ensures .0) (ended (c .before .before)))
-    ∙ over-outside (entries + 2) entries (omega arith) line (drop (end .result + 1) text) not-fine)
+    ∙ over-outside lineFine (entries + 2) entries (omega arith) line (drop (end .result + 1) text) not-fine)
 
 returns-3 : tie.Need-returns-3 Inv-loop μ-loop
 returns-3 c =
     let entries = c .before .loop .entries in
-    sym (c .before .loop .inv .2 ∙ over-end (entries + 2) entries (now (c .before .before .before .args .text)) (c .before .loop .at) (c .loop-test .left))
+    sym (c .before .loop .inv .2 ∙ over-end lineFine (entries + 2) entries (now (c .before .before .before .args .text)) (c .before .loop .at) (c .loop-test .left))
 
 pub scan-lines-spec : {M : Type 1} → statement M
 scan-lines-spec =
