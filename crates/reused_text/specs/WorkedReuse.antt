@@ -8,20 +8,20 @@ use Rattle.text.specs.Lines.{bytesIn}
 use Rattle.reused_text.specs.Form.{outside, textNumber}
 use Rattle.reused_text.specs.Played.{ranNot, ranOf, reuseText}
 
--- Process 1 loads [0, 0] and stores a 1; process 0 loads it, [1, 1], and after its load process 1's check says no. A process that is not there, a step
+-- Process 1 loads [0, 0] and stores a 0; process 0 loads it, [1, 0], and after its load process 1's check says no. A process that is not there, a step
 -- of no call, and a request to an open call are turned away.
 abbrev pub typedReuse : List ℕ
 typedReuse =
     bytesIn "H 2 60\n"
     ++ (bytesIn "L 1\nT 1\nT 1\nT 1\n"
-    ++ (bytesIn "S 1 1\nT 1\nT 1\n" ++ (bytesIn "L 0\nT 0\nT 0\nT 0\n" ++ (bytesIn "V 1\nT 1\n" ++ bytesIn "T 2\nT 1\nS 0 0\nL 0\n"))))
+    ++ (bytesIn "S 1 0\nT 1\nT 1\n" ++ (bytesIn "L 0\nT 0\nT 0\nT 0\n" ++ (bytesIn "V 1\nT 1\n" ++ bytesIn "T 2\nT 1\nS 0 0\nL 0\n"))))
 
 abbrev pub printedReuse : List ℕ
 printedReuse =
     bytesIn "entries 17 changes 1 processes 2\n"
     ++ (bytesIn "0 1 0 0 0 0\n1 1 1 1 0 0\n2 1 1 2 0 0\n3 1 2 3 0 0\n"
     ++ (bytesIn "4 1 0 0 0 0\n5 1 1 1 0 0\n6 1 3 2 0 0\n"
-    ++ (bytesIn "7 0 0 0 0 0\n8 0 1 1 0 0\n9 0 1 2 0 0\n10 0 2 3 1 1\n"
+    ++ (bytesIn "7 0 0 0 0 0\n8 0 1 1 0 0\n9 0 1 2 0 0\n10 0 2 3 1 0\n"
     ++ (bytesIn "11 1 0 0 0 0\n12 1 6 1 0 0\n" ++ bytesIn "13 2 11 0 0 0\n14 1 14 0 0 0\n15 0 0 0 0 0\n16 0 12 0 0 0\n"))))
 
 -- the numbers that two texts beside an edge get
