@@ -176,8 +176,8 @@ module _ (n m : ℕ) (p : Process) (x x′ : Triple) (own : Own) (named : Named)
   same-x Store2 k e = e
   same-x Check1 k e = e
 
--- No other register matters: where two states agree on N, on M, on what is private to p and on these registers, p's step says the same and leaves
--- the same there.
+-- No other register matters: where two states agree on N, on M, on what is private to p and on these registers, p's step says the same
+-- and leaves the same there.
 module _ (st st′ : State) (p : Process) (ready : Ready st) (ready′ : Ready st′) (n : st .n ≡ st′ .n) (m : st .m ≡ st′ .m)
     (same : privateOf (rowAt st (p .0)) ≡ privateOf (rowAt st′ (p .0))) (agree : AgreeOn (stepIsOn st (p .0)) st st′) where
   abbrev own : Own

@@ -20,7 +20,7 @@ sizesNumber n m = firstFound (numberUnless (inRangeN n) 16) (numberUnless (inRan
 unfoldable pub ahead : ℕ → ℕ → ℕ → ℕ
 ahead m a k = (a + k) % m
 
--- Figure 13: "arc(a, b, c, m) returns bool = (b ≤ a < b + c) ∨ (b ≤ a + m < b + c)": whether a is one of the c numbers from b on. It is half open, as
--- document 02 asks ("with its interval half open as the text has it, not closed as printed").
+-- Figure 13: "arc(a, b, c, m) returns bool = (b ≤ a < b + c) ∨ (b ≤ a + m < b + c)": whether a is one of the c numbers from b on. It is
+-- half open, as document 02 asks ("with its interval half open as the text has it, not closed as printed").
 unfoldable pub arc : ℕ → ℕ → ℕ → ℕ → Bool
 arc a b c m = (leb b a && ltb a (b + c)) || (leb b (a + m) && ltb (a + m) (b + c))

@@ -21,8 +21,8 @@ numbers outcome steps = record { outcome = outcome; steps = steps; stored = none
 abbrev pub noSteps : ℕ → Numbers
 noSteps outcome = numbers outcome 0
 
--- "1 step taken, call goes on; 2 LL answered; 3 SC done; 4 SC not done; 5 VL yes; 6 VL no"; 14: "step of an idle process". "loads of three steps,
--- stores of one if not done and two if done, checks of one"
+-- "1 step taken, call goes on; 2 LL answered; 3 SC done; 4 SC not done; 5 VL yes; 6 VL no"; 14: "step of an idle process". "loads of
+-- three steps, stores of one if not done and two if done, checks of one"
 abbrev pub ofStep : Triple → Own → Place → Numbers
 ofStep x own Idle = noSteps 14
 ofStep x own Load1 = numbers 1 1

@@ -1,5 +1,5 @@
--- An entry over the parts that it can reach, for a run that keeps the state itself: `called-by-parts` in proofs/ says that on a sound state it is
--- the entry. By themselves the parts may be anything, so they are tested too.
+-- An entry over the parts that it can reach, for a run that keeps the state itself: `called-by-parts` in proofs/ says that on a sound
+-- state it is the entry. By themselves the parts may be anything, so they are tested too.
 use Prim.Native.Nat.{ℕ}
 use mathlib.Core.Bool.{Bool, _&&_, cond}
 use lib.Dec.{ltb}

@@ -19,8 +19,8 @@ abbrev pub holds : State → Register → Content
 holds st theX = aTriple (st .x)
 holds st (placeOf q) = aNamed (rowAt st q .named)
 
--- "read X as old; announce old's process and tag in one's own place of A; read X as check"; a store's first step is on X, its second is "reading
--- one place of A", the one at the search place; "VL says whether X .."
+-- "read X as old; announce old's process and tag in one's own place of A; read X as check"; a store's first step is on X, its second is
+-- "reading one place of A", the one at the search place; "VL says whether X .."
 abbrev pub registersAt : ℕ → Own → Place → List Register
 registersAt p own Idle = []
 registersAt p own Load1 = theX ∷ []

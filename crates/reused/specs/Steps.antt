@@ -1,5 +1,5 @@
--- Document 02, P9: each step, a request, and the number of each outcome. A step of process p sees X, p's own row and, where it chooses a tag, one
--- place of A; it says what it leaves of X and of p's row.
+-- Document 02, P9: each step, a request, and the number of each outcome. A step of process p sees X, p's own row and, where it chooses a
+-- tag, one place of A; it says what it leaves of X and of p's row.
 use Prim.Native.Nat.{ℕ, _+_}
 use mathlib.Core.Bool.{Bool, false, _&&_, cond, not}
 use lib.Dec.{eqb, ltb}
@@ -73,8 +73,8 @@ abbrev pub store1 : Process → Triple → Own → Bool → Stepped
 store1 p x own bit =
     cond (allEqual x own) (goesOn (record { tag = own .tag; process = p; bit = bit }) (at own Store2)) (answered x own NotDone)
 
--- "Second step: choose the next tag, reading one place of A; done." "The choice is figure 10's". Its line 11: what A names there is p, by a tag of
--- the interval that p is looking at.
+-- "Second step: choose the next tag, reading one place of A; done." "The choice is figure 10's". Its line 11: what A names there is p, by
+-- a tag of the interval that p is looking at.
 abbrev pub hits : ℕ → ℕ → Process → Own → Named → Bool
 hits n m p own Nobody = false
 hits n m p own (Names a) = eqb (a .process .0) (p .0) && arc (a .tag .0) (own .start .0) (intervalOf n) m

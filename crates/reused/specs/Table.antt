@@ -1,5 +1,5 @@
--- Runs of the machine worked by hand: each line is an entry and what must be said of it; and, where it tells, what X or a row must be at the end.
--- "LL1" is the request and all steps.
+-- Runs of the machine worked by hand: each line is an entry and what must be said of it; and, where it tells, what X or a row must be at
+-- the end. "LL1" is the request and all steps.
 use Prim.Native.Nat.{ℕ, zero, suc}
 use mathlib.Core.Path.{_≡_}
 use mathlib.Core.Bool.{Bool, true, false}
@@ -145,19 +145,21 @@ pub record Runs : Type 0 where
   -- N 1, M 12: D is 3. The tags come round: the fifth store has the start's tag again, the sixth that of the second.
   pub G : Right 1 12 (pairs 6)
   pub G-tags : tagsOfPairs 1 12 (pairs 0 ∷ pairs 1 ∷ pairs 2 ∷ pairs 3 ∷ pairs 4 ∷ pairs 5 ∷ pairs 6 ∷ []) ≡ 0 ∷ 1 ∷ 3 ∷ 6 ∷ 9 ∷ 0 ∷ 3 ∷ []
-  -- Process 0's twelfth store looks at process 1's place of A for a tag from 0 to 9, and comes upon tag 1: the search begins again at place 0, for
-  -- tags from 10 on, and the next tag is one up. Where process 1 announces nothing, the tags from 0 on are taken.
+  -- Process 0's twelfth store looks at process 1's place of A for a tag from 0 to 9, and comes upon tag 1: the search begins again at
+  -- place 0, for tags from 10 on, and the next tag is one up. Where process 1 announces nothing, the tags from 0 on are taken.
   pub H : Right 2 60 (held ++ pairs 11)
   pub H-before : choiceIn (rowAfter 2 60 (held ++ pairs 10) 0) ≡ 51 ∷ 0 ∷ 1 ∷ []
   pub H-after : choiceIn (rowAfter 2 60 (held ++ pairs 11) 0) ≡ 52 ∷ 10 ∷ 0 ∷ []
   pub H-else : choiceIn (rowAfter 2 60 (pairs 12) 0) ≡ 0 ∷ 10 ∷ 0 ∷ []
-  -- Process 1 has read X, and not announced it; by thirteen stores of process 0 the start's tag, process and bit stand in X once more. The load cannot
-  -- tell that from a word that nobody stored into, and need not: it takes effect at its last step, and its process is linked.
+  -- Process 1 has read X, and not announced it; by thirteen stores of process 0 the start's tag, process and bit stand in X once more.
+  -- The load cannot tell that from a word that nobody stored into, and need not: it takes effect at its last step, and its process is
+  -- linked.
   pub I : Right 2 60 (requestTaken 1 Load ∷ stepTaken 1 1 ∷ (pairs 13 ++ (stepTaken 1 2 ∷ answersLL 1 0 false ∷ VLyes 1)))
-  -- N 3, M 168: D is 21. Process 0 stores, and its check without a new load says no. With figure 10's interval closed, as it is printed, two slow readers
-  -- make eight jumps in one search; the interval is used up, the last two stores have one tag, and this check says yes.
+  -- N 3, M 168: D is 21. Process 0 stores, and its check without a new load says no. With figure 10's interval closed, as it is printed,
+  -- two slow readers make eight jumps in one search; the interval is used up, the last two stores have one tag, and this check says yes.
   pub J : Right 3 168 slowReaders
-  -- As I, but process 1's load ends one store earlier: its two reads differ, so that it serves for no check and no store, though X is old again.
+  -- As I, but process 1's load ends one store earlier: its two reads differ, so that it serves for no check and no store, though X is old
+  -- again.
   pub K : Right 2 60 (requestTaken 1 Load ∷ stepTaken 1 1 ∷ (pairs 12 ++ (stepTaken 1 2 ∷ answersLL 1 0 false ∷ (pair ++ (VLno 1 ++ SCfails 1 true)))))
   -- As I, but process 1 has announced what it read: process 0 comes upon it, and the start's tag does not come again.
   pub L : Right 2 60 (requestTaken 1 Load ∷ stepTaken 1 1 ∷ stepTaken 1 2 ∷ (pairs 13 ++ (answersLL 1 0 false ∷ VLno 1)))

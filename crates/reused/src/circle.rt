@@ -1,4 +1,5 @@
-// The circle of tags: how long an interval of it is, how far round it may be, going on along it, and whether a number is in an interval of it.
+// The circle of tags: how long an interval of it is, how far round it may be, going on along it, and whether a number is in an interval
+// of it.
 ghost use mathlib.Core.Path.{_≡_};
 ghost use Prim.Native.Nat.{_<_, _≤_};
 ghost use Rattle.reused.specs.Circle.{intervalOf, inRangeM, ahead, arc};

@@ -12,7 +12,8 @@ use crate::parts::parts_after;
 use crate::sound::is_sound;
 use numbers::Process;
 
-// An entry of a process that is there: X, its row and the place of A at its search place go out, and what it leaves of the first two comes back.
+// An entry of a process that is there: X, its row and the place of A at its search place go out, and what it leaves of the first two
+// comes back.
 fn enter(st: State, p: Process, kind: Kind) -> Answer
     requires { ⌜ (sound st ≡ true) × (p .0 < st .n) ⌝ }
     ensures { λ r. ⌜ r ≡ entered st p kind ⌝ }

@@ -1,7 +1,7 @@
-// The machine with reused numbers: one word for up to 16 processes that holds a bit and says who stored it. Its tags run round a circle of M
-// numbers. The whole machine is one value: start, the soundness test, and a direct call of one of four kinds; and the same entry over the few
-// parts that it can reach, for a loop that keeps the state itself. A caller may hand in anything whatever; what is unsound is turned away
-// before anything else is looked at.
+// The machine with reused numbers: one word for up to 16 processes that holds a bit and says who stored it. Its tags run round a circle
+// of M numbers. The whole machine is one value: start, the soundness test, and a direct call of one of four kinds; and the same entry
+// over the few parts that it can reach, for a loop that keeps the state itself. A caller may hand in anything whatever; what is unsound
+// is turned away before anything else is looked at.
 mod choice;
 mod circle;
 pub mod direct;

@@ -1,6 +1,5 @@
--- The invariants, split by whose data they read: one process, one owner of tags, X and an owner, an owner and a reader. An owner's numbers are
--- ways from the start of its safe interval, so every arc is an interval of plain numbers.
--- Assumes nothing.
+-- The invariants, split by whose data they read: one process, one owner of tags, X and an owner, an owner and a reader. An owner's
+-- numbers are ways from the start of its safe interval, so every arc is an interval of plain numbers. Assumes nothing.
 use Prim.Native.Nat.{ℕ, _+_, _*_, _≤_, _<_}
 use mathlib.Core.Path.{_≡_, refl, sym, subst}
 use mathlib.Core.Bool.{Bool, true, false, cond}
@@ -42,7 +41,8 @@ Shown (Store1 bit) = Unit {0}
 Shown Store2 = Unit {0}
 Shown Check1 = Unit {0}
 
--- an owner's numbers: its next tag, its next start, its search place, and 1 between the two steps of a store that is done, whose tag is used up
+-- an owner's numbers: its next tag, its next start, its search place, and 1 between the two steps of a store that is done, whose tag is
+-- used up
 pub record Owner : Type 0 where
   pub tag : ℕ
   pub start : ℕ
@@ -90,8 +90,8 @@ pub record AtX (D M : ℕ) (x : Triple) (v : Owner) (s : Safe) (h : List ℕ) (p
   pub known : x .process .0 ≡ p → way M (s .start) (v .start) ≤ way M (s .start) (x .tag .0) → In (way M (s .start) (x .tag .0)) h
   pub last : x .process .0 ≡ p → (way M (s .start) (x .tag .0) + 1 ≡ used M v s) ⊎ ((used M v s ≡ 0) × (D ≤ way M (s .start) (x .tag .0)))
 
--- An owner p and a reader q. What q announces or is about to announce is in h from the next start on. If q is linked to a tag of p: once p has
--- looked at q's place, the tag is not in the interval that p looks at; and it is none of those that p has still to use.
+-- An owner p and a reader q. What q announces or is about to announce is in h from the next start on. If q is linked to a tag of p: once
+-- p has looked at q's place, the tag is not in the interval that p looks at; and it is none of those that p has still to use.
 pub record Pair (D M : ℕ) (v : Owner) (s : Safe) (h : List ℕ) (p : ℕ) (o : Own) (q : ℕ) : Type 0 where
   pub named : (a : Announced) → o .named ≡ Names a → a .process .0 ≡ p → way M (s .start) (v .start) ≤ way M (s .start) (a .tag .0) → In (way M (s .start) (a .tag .0)) h
   pub read : (w : Triple) → Pending (o .place) → o .old ≡ Holds w → w .process .0 ≡ p → way M (s .start) (v .start) ≤ way M (s .start) (w .tag .0) → In (way M (s .start) (w .tag .0)) h

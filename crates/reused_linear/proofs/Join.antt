@@ -1,5 +1,5 @@
--- The joining: each entry carries the relation on. What an entry decides goes into the order by one of the three ways of word/proofs/Good.antt.
--- Assumes nothing.
+-- The joining: each entry carries the relation on. What an entry decides goes into the order by one of the three ways of
+-- word/proofs/Good.antt. Assumes nothing.
 use Prim.Native.Nat.{ℕ, suc, _+_, _≤_, _<_}
 use mathlib.Core.Path.{_≡_, refl, sym, ap, _∙_, subst, subst₂}
 use mathlib.Core.Bool.{Bool, true, false, cond, false≢true}

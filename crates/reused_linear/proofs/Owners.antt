@@ -1,6 +1,5 @@
--- The owner's half of the steps that choose a tag, and of a store that changes X: what its numbers become, and what that does to X and to every
--- reader. (W9) stands here: `hit-tag` and `pass-tag`.
--- Assumes nothing.
+-- The owner's half of the steps that choose a tag, and of a store that changes X: what its numbers become, and what that does to X and to
+-- every reader. (W9) stands here: `hit-tag` and `pass-tag`. Assumes nothing.
 use Prim.Native.Nat.{ℕ, zero, suc, _+_, _*_, _≤_, _<_}
 use mathlib.Core.Path.{_≡_, refl, ap, subst}
 use mathlib.Core.Logic.{_⊎_, inl, inr}

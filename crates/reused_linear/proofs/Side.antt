@@ -1,5 +1,5 @@
--- The relation between the machine and the order of the calls decided so far: for each process the change that it has seen, and its open call.
--- Assumes nothing.
+-- The relation between the machine and the order of the calls decided so far: for each process the change that it has seen, and its open
+-- call. Assumes nothing.
 use Prim.Native.Nat.{ℕ, suc, _≤_, _<_}
 use mathlib.Core.Path.{_≡_, refl, sym, ap, _∙_}
 use mathlib.Core.Bool.{Bool, true, false, _&&_, false≢true}
@@ -27,8 +27,8 @@ top order = total 0 order
 abbrev pub valueAt : ℕ → List (Call Stored) → Stored
 valueAt k order = valueAfter 0 k noneStored order
 
--- The change that a process has seen. Between step 1 of its load and its answer: the newest only if old is X. Outside: the newest exactly if old, check
--- and X are equal. The one direction, `newest`, is what (W1) is for.
+-- The change that a process has seen. Between step 1 of its load and its answer: the newest only if old is X. Outside: the newest exactly
+-- if old, check and X are equal. The one direction, `newest`, is what (W1) is for.
 pub record Sees (order : List (Call Stored)) (x : Triple) (o : Own) (seen : Link) : Type 0 where
   pub low : (k : ℕ) → seen ≡ at k → k ≤ top order
   pub values : (k : ℕ) (w : Triple) → seen ≡ at k → o .old ≡ Holds w → valueAt k order ≡ storedOf (Holds w)
@@ -56,8 +56,8 @@ pub record Side (now : ℕ) (order : List (Call Stored)) (x : Triple) (q t : ℕ
   pub link : OutsideLoad (o .place) → endLink noneStored 0 order q ≡ seen
   pub call : OpenAt (processOf q) t now order op seen (o .place)
 
--- There is an order that is good, the word's value at its end is X's, all calls are on the one word, and of each process there is a change that
--- it has seen.
+-- There is an order that is good, the word's value at its end is X's, all calls are on the one word, and of each process there is a
+-- change that it has seen.
 pub record Sim (n : ℕ) (x : Triple) (own : ℕ → Own) (c : Calls Stored) : Type 0 where
   pub order : List (Call Stored)
   pub seen : ℕ → Link

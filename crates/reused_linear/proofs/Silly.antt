@@ -1,6 +1,5 @@
--- Records and states that have to fall: of each the statement is false. These are facts that a weaker definition breaks, where the theorems would
--- go on. (Records that fall whatever a machine's rules are stand in word/proofs/Silly.antt.)
--- Assumes nothing.
+-- Records and states that have to fall: of each the statement is false. These are facts that a weaker definition breaks, where the
+-- theorems would go on. (Records that fall whatever a machine's rules are stand in word/proofs/Silly.antt.) Assumes nothing.
 use Prim.Native.Nat.{ℕ, _≤_, _<_}
 use mathlib.Core.Path.{_≡_, refl, ap}
 use mathlib.Core.Bool.{Bool, true, false, false≢true}
@@ -143,8 +142,8 @@ end-reached h = omega (arith, h .w9 (record { 0 = 0 }) (omega arith) refl (inr (
 pub jumps-on : ¬ Claims (record { n = 2; m = 60; x = firstTriple; rows = row 0 10 0 ∷ row 0 10 0 ∷ [] }) (fromZero 5)
 jumps-on h = omega (arith, h .w4short 0 (omega arith))
 
--- With arcs closed, as document 001 prints them, (W1) is false. N 2, M 60, so that D is 10: process 1 loads tag 10, and stays linked to it; by nine more
--- stores process 0 comes round to the safe interval [0, 10), whose end is 10.
+-- With arcs closed, as document 001 prints them, (W1) is false. N 2, M 60, so that D is 10: process 1 loads tag 10, and stays linked to
+-- it; by nine more stores process 0 comes round to the safe interval [0, 10), whose end is 10.
 abbrev roundRun : List Entry
 roundRun = map (λ l. l .entry) (pairs 3 ++ (LL 1 0 false ++ pairs 9))
 

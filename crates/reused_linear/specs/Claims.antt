@@ -1,5 +1,6 @@
--- The three claims of document 001, section 4.5, that it assumed and did not prove: (W1), (W9) and (W4short), of every state that a run from the
--- start reaches. Its pc 7 is `Store2`, its old, chk, tag, nextStart and procNum are a row's old, check, tag, start and search. Arcs are half open.
+-- The three claims of document 001, section 4.5, that it assumed and did not prove: (W1), (W9) and (W4short), of every state that a run
+-- from the start reaches. Its pc 7 is `Store2`, its old, chk, tag, nextStart and procNum are a row's old, check, tag, start and search.
+-- Arcs are half open.
 use Prim.Native.Nat.{ℕ, _+_, _*_, _<_}
 use mathlib.Core.Path.{_≡_}
 use mathlib.Core.Bool.{true, false}
@@ -33,8 +34,8 @@ OutsideLoad Store2 = Unit {0}
 OutsideLoad Check1 = Unit {0}
 
 pub record Claims (st : State) (safe : ℕ → Safe) : Type 0 where
-  -- (W1) "For a process r that has completed its LL operation and for which the old and chk values are equal, the tag field of old.r is not in the
-  -- remaining safe interval of the process from the pid field of old.r": [tag.p ⊕ (#pc.p = 7), endSafe.p)
+  -- (W1) "For a process r that has completed its LL operation and for which the old and chk values are equal, the tag field of old.r is
+  -- not in the remaining safe interval of the process from the pid field of old.r": [tag.p ⊕ (#pc.p = 7), endSafe.p)
   pub w1 : (r : ℕ) → r < st .n → (w : Triple) → OutsideLoad (rowAt st r .place) → rowAt st r .old ≡ Holds w → rowAt st r .check ≡ Holds w
       → InArc (st .m) (ahead (st .m) (rowAt st (w .process .0) .tag .0) (atChoice (rowAt st (w .process .0) .place))) (endSafe (st .n) (st .m) (safe (w .process .0))) (w .tag .0)
       → ⊥

@@ -1,6 +1,7 @@
--- Demand 3 of this machine, by word/specs/Records.antt: what its entries ask, what is said of them, and its rules of right steps. Document 02, P9:
--- "Demand 3 holds for every sequence of its entries from the start, with loads of three steps, stores of one if not done and two if done, checks of
--- one; the atomic word's value is a process and a bit, at first [0, 0], and an unanswered store whose first step changed X is played as a success."
+-- Demand 3 of this machine, by word/specs/Records.antt: what its entries ask, what is said of them, and its rules of right steps.
+-- Document 02, P9: "Demand 3 holds for every sequence of its entries from the start, with loads of three steps, stores of one if not done
+-- and two if done, checks of one; the atomic word's value is a process and a bit, at first [0, 0], and an unanswered store whose first
+-- step changed X is played as a success."
 use Prim.Native.Nat.{ℕ, _≤_}
 use mathlib.Core.Path.{_≡_}
 use mathlib.Core.Bool.{Bool, true}

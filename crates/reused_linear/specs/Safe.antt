@@ -1,4 +1,5 @@
--- Document 001, figure 13: the variables that say which tags a process is using up. The machine has none of them; they are stepped along with it.
+-- Document 001, figure 13: the variables that say which tags a process is using up. The machine has none of them; they are stepped along
+-- with it.
 use Prim.Native.Nat.{ℕ, suc, _+_}
 use mathlib.Core.Bool.{cond}
 use mathlib.Core.List.{List, [], _∷_}

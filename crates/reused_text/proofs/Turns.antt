@@ -100,7 +100,8 @@ module _ {text : List ℕ} {from : ℕ} {rest₀ : List ℕ} {st₀ : State} {en
   pub some-coming : j < end → 0 < length (bitEntriesFrom text place)
   some-coming l = rw (← h .coming, length-drop) (omega (arith, h .long, l))
 
-  -- The turn itself, said of what the loop's calls gave: the entry and the place behind it, its seat, what it left, its record, the count, the log.
+  -- The turn itself, said of what the loop's calls gave: the entry and the place behind it, its seat, what it left, its record, the
+  -- count, the log.
   pub turn-next : j < end
       → (e : Entry) (place′ : ℕ) → bitEntriesFrom text place ≡ e ∷ bitEntriesFrom text place′ → place′ ≤ length text
       → (i : Process) → i ≡ seatOf n (e .process)

@@ -17,8 +17,8 @@ abbrev pub bitNumber : Bool → ℕ
 bitNumber true = 1
 bitNumber false = 0
 
--- "process, outcome, own steps, and the load's answer as process and bit": six numbers with the place, as the log's line has them, the answer's
--- process for the mark and its bit for the value
+-- "process, outcome, own steps, and the load's answer as process and bit": six numbers with the place, as the log's line has them, the
+-- answer's process for the mark and its bit for the value
 abbrev pub inLog : EntryNote → Note
 inLog w =
     record {

@@ -8,8 +8,8 @@ use Rattle.text.specs.Lines.{bytesIn}
 use Rattle.reused_text.specs.Form.{outside, textNumber}
 use Rattle.reused_text.specs.Played.{ranNot, ranOf, reuseText}
 
--- Process 1 loads [0, 0] and stores a 0; process 0 loads it, [1, 0], and after its load process 1's check says no. A process that is not there, a step
--- of no call, and a request to an open call are turned away.
+-- Process 1 loads [0, 0] and stores a 0; process 0 loads it, [1, 0], and after its load process 1's check says no. A process that is not
+-- there, a step of no call, and a request to an open call are turned away.
 abbrev pub typedReuse : List ℕ
 typedReuse =
     bytesIn "H 2 60\n"

@@ -24,8 +24,8 @@ fn turn_away(number: usize, line: usize) -> Ran
     }
 }
 
-// A text that nothing refuses, with room for its log. The head is laid first, with no change counted yet; the records go into the rest behind
-// it; and once the changes are known the head is laid with their count.
+// A text that nothing refuses, with room for its log. The head is laid first, with no change counted yet; the records go into the rest
+// behind it; and once the changes are known the head is laid with their count.
 fn run_entries(text: &[u8], log: &mut [u8], told: Scanned)
     requires { ⌜ (textNumber (now text) ≡ 0) × (told ≡ within (now text)) × (logLength (told .entries) ≤ length (now log)) ⌝ }
     ensures { λ _. ⌜ now (log .exit) ≡ laid (textLog (now (text .entry))) (now (log .entry)) ⌝ }

@@ -1,6 +1,6 @@
--- Steps and replies, whichever machine it was: a process stands in no call, in one that is not decided, or in a store that is decided and not
--- answered. How that goes on with each item; no order, no words and no values in it. A machine says at which stage each of its places is.
--- Assumes nothing.
+-- Steps and replies, whichever machine it was: a process stands in no call, in one that is not decided, or in a store that is decided and
+-- not answered. How that goes on with each item; no order, no words and no values in it. A machine says at which stage each of its places
+-- is. Assumes nothing.
 use Prim.Native.Nat.{ℕ, suc, _<_}
 use mathlib.Core.Path.{_≡_, refl, sym, ap, _∙_, fun-ext, subst}
 use mathlib.Core.Bool.{Bool, true, false, cond, _&&_}
@@ -90,7 +90,8 @@ module _ {A : Type 0} where
   next-step {q} {t} {n} steps o =
       record { counted = ap suc (put-same q (suc n) steps ∙ o .counted); before = omega (arith, o .before); since = o .since }
 
-  -- The calls after a step of p that goes on, if it decides a store or not; and after one that answers p's call, if that was decided before or not.
+  -- The calls after a step of p that goes on, if it decides a store or not; and after one that answers p's call, if that was decided
+  -- before or not.
   abbrev pub gone : Calls A → ℕ → Bool → Calls A
   gone c p b =
       record {

@@ -41,8 +41,9 @@ pub record Rules (A : Type 0) : Type 1 where
   pub MayRefuse : Bool → Op A → ℕ → Type 0
 
 module _ {A : Type 0} where
-  -- What came of an entry of p, by the number of its outcome: "0 request taken; 1 step taken, call goes on; 2 LL answered; 3 SC done; 4 SC not
-  -- done; 5 VL yes; 6 VL no. A refused entry's outcome is its number below." A step is never "taken as a request": 0 is none of its outcomes.
+  -- What came of an entry of p, by the number of its outcome: "0 request taken; 1 step taken, call goes on; 2 LL answered; 3 SC done; 4
+  -- SC not done; 5 VL yes; 6 VL no. A refused entry's outcome is its number below." A step is never "taken as a request": 0 is none of
+  -- its outcomes.
   abbrev pub stepItems : ℕ → A → List (Item A)
   stepItems p v = away ∷ goes p ∷ answers p (value v) ∷ answers p done ∷ answers p notDone ∷ answers p saysYes ∷ answers p saysNo ∷ []
 
