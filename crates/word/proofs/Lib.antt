@@ -18,8 +18,8 @@
 --     Decide    playing and real time decided by computing
 -- A machine's proof needs this of them:
 --     the order      good-start, good-tick, good-append, good-load; at the end one-order, with the Told of the replies
---     the replies    the stage at each place of the machine; known-start; an entry by known-away, known-asks, known-goes, known-stored, known-done,
---                    known-answers or known-answered, and known-put; decides-at says whether it decides a store; `told` is that Told
+--     the replies    the stage at each place of the machine; known-start; an entry by known-away, known-asks, known-goes, known-stored,
+--                    known-done, known-answers or known-answered, and known-put; decides-at: whether it decides a store; `told` is that Told
 --     the others     aside-same, aside-snoc, aside-load, and with them undecided-on, loading-on
 --     a request      own-new makes its Undecided
 --     a load's step  late-new at its first makes its LateFor; with late-later and `own` that makes the MayLoad of good-load
