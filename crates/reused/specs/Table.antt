@@ -93,9 +93,9 @@ triple tag process bit = record { tag = record { 0 = tag }; process = record { 0
 abbrev pub tagsOfPairs : ℕ → ℕ → List (List Line) → List ℕ
 tagsOfPairs n m runs = map (λ lines. xAfter n m lines .tag .0) runs
 
-abbrev pub concat : List (List Line) → List Line
-concat [] = []
-concat (ls ∷ more) = ls ++ concat more
+abbrev pub joined : List (List Line) → List Line
+joined [] = []
+joined (ls ∷ more) = ls ++ joined more
 
 abbrev pub pairs : ℕ → List Line
 pairs zero = []
@@ -108,7 +108,7 @@ held = pair ++ LL 1 0 false
 -- Process 0 stores on while processes 1 and 2 are slow with their loads.
 abbrev pub slowReaders : List Line
 slowReaders =
-    concat
+    joined
     ((LL 0 0 false ++ (requestTaken 1 Load ∷ stepTaken 1 1 ∷ SC 0 false))
     ∷ pairs 6
     ∷ (LL 0 0 false ++ (stepTaken 1 2 ∷ answersLL 1 0 false ∷ requestTaken 2 Load ∷ stepTaken 2 1 ∷ SC 0 false))

@@ -8,9 +8,10 @@ use mathlib.Core.List.{List, [], _∷_, _++_}
 use native.Mathlib.Nat.{eq-or-lt-of-le}
 use native.Mathlib.Omega.{arith}
 use lib.Dec.{eqb}
+use lib.ListN.{length, length-append}
 use borrow.Author.Tests.{eq-eqb}
 use Rattle.reused_linear.specs.Types.{Triple, Announced, Named, Nobody, Names, Kept, Nothing, Holds, Place, Idle, Load1, Load2, Load3, Store1, Store2, Check1, Own}
-use Rattle.reused_linear.proofs.Lists.{In, size, size-append, in-left, in-right}
+use Rattle.reused_linear.proofs.Lists.{In, in-left, in-right}
 
 -- the tag, if it is one of p
 abbrev pub ofOwner : ℕ → ℕ → ℕ → List ℕ
@@ -51,21 +52,18 @@ Pending Check1 = ⊥
 owned : (p process tag : ℕ) → process ≡ p → In tag (ofOwner p process tag)
 owned p process tag e = subst (λ (t : Bool). In tag (cond t (tag ∷ []) [])) (sym (eq-eqb process p e)) (inl refl)
 
-few-owned : (p process tag : ℕ) → size (ofOwner p process tag) ≤ 1
-unfolding size
+few-owned : (p process tag : ℕ) → length (ofOwner p process tag) ≤ 1
 few-owned p process tag = go (eqb process p)
   where
-    go : (t : Bool) → size (cond t (tag ∷ []) []) ≤ 1
+    go : (t : Bool) → length (cond t (tag ∷ []) []) ≤ 1
     go true = omega arith
     go false = omega arith
 
-few-name : (p : ℕ) (a : Named) → size (inName p a) ≤ 1
-unfolding size
+few-name : (p : ℕ) (a : Named) → length (inName p a) ≤ 1
 few-name p Nobody = omega arith
 few-name p (Names a) = few-owned p (a .process .0) (a .tag .0)
 
-few-read : (p : ℕ) (old : Kept) (place : Place) → size (inRead p old place) ≤ 1
-unfolding size
+few-read : (p : ℕ) (old : Kept) (place : Place) → length (inRead p old place) ≤ 1
 few-read p old Idle = omega arith
 few-read p old Load1 = omega arith
 few-read p Nothing Load2 = omega arith
@@ -75,8 +73,7 @@ few-read p old (Store1 bit) = omega arith
 few-read p old Store2 = omega arith
 few-read p old Check1 = omega arith
 
-no-read : (p : ℕ) (old : Kept) (place : Place) → (Pending place → ⊥) → size (inRead p old place) ≡ 0
-unfolding size
+no-read : (p : ℕ) (old : Kept) (place : Place) → (Pending place → ⊥) → length (inRead p old place) ≡ 0
 no-read p old Idle h = refl
 no-read p old Load1 h = refl
 no-read p old Load2 h = absurd (h tt)
@@ -136,32 +133,32 @@ module _ (p : ℕ) (x : Triple) (own : ℕ → Own) where
           (in-right (w .tag .0) (inRead p (own n .old) (own n .place)) (held p x own n) (rec (omega (arith, g))))
 
   -- one in X, one announced by each process, one read by each process but p itself
-  held-most : (n : ℕ) → size (held p x own n) ≤ 2 * n + 1
+  held-most : (n : ℕ) → length (held p x own n) ≤ 2 * n + 1
   unfolding held
   held-most zero = few-owned p (x .process .0) (x .tag .0)
   held-most (suc n) =
       omega (
         arith,
-        size-append (inName p (own n .named)) (inRead p (own n .old) (own n .place) ++ held p x own n),
-        size-append (inRead p (own n .old) (own n .place)) (held p x own n),
+        length-append (inName p (own n .named)) (inRead p (own n .old) (own n .place) ++ held p x own n),
+        length-append (inRead p (own n .old) (own n .place)) (held p x own n),
         few-name p (own n .named),
         few-read p (own n .old) (own n .place),
         held-most n,
       )
 
-  pub held-few : (n : ℕ) → p < n → (Pending (own p .place) → ⊥) → size (held p x own n) ≤ 2 * n
+  pub held-few : (n : ℕ) → p < n → (Pending (own p .place) → ⊥) → length (held p x own n) ≤ 2 * n
   unfolding held
   held-few zero l calm = absurd (omega (arith, l))
   held-few (suc n) l calm = go (λ k. held-few n k calm) (eq-or-lt-of-le l)
     where
-      one : size (inName p (own n .named) ++ (inRead p (own n .old) (own n .place) ++ held p x own n)) ≡ size (inName p (own n .named)) + (size (inRead p (own n .old) (own n .place)) + size (held p x own n))
+      one : length (inName p (own n .named) ++ (inRead p (own n .old) (own n .place) ++ held p x own n)) ≡ length (inName p (own n .named)) + (length (inRead p (own n .old) (own n .place)) + length (held p x own n))
       one =
-          size-append (inName p (own n .named)) (inRead p (own n .old) (own n .place) ++ held p x own n)
-          ∙ ap (λ (k : ℕ). size (inName p (own n .named)) + k) (size-append (inRead p (own n .old) (own n .place)) (held p x own n))
+          length-append (inName p (own n .named)) (inRead p (own n .old) (own n .place) ++ held p x own n)
+          ∙ ap (λ (k : ℕ). length (inName p (own n .named)) + k) (length-append (inRead p (own n .old) (own n .place)) (held p x own n))
 
-      go : (p < n → size (held p x own n) ≤ 2 * n) → (suc p ≡ suc n) ⊎ (suc p < suc n) → size (inName p (own n .named) ++ (inRead p (own n .old) (own n .place) ++ held p x own n)) ≤ 2 * suc n
+      go : (p < n → length (held p x own n) ≤ 2 * n) → (suc p ≡ suc n) ⊎ (suc p < suc n) → length (inName p (own n .named) ++ (inRead p (own n .old) (own n .place) ++ held p x own n)) ≤ 2 * suc n
       go rec (inl g) =
-          let none : size (inRead p (own n .old) (own n .place)) ≡ 0 = subst (λ (k : ℕ). size (inRead p (own k .old) (own k .place)) ≡ 0) (same g) (no-read p (own p .old) (own p .place) calm) in
+          let none : length (inRead p (own n .old) (own n .place)) ≡ 0 = subst (λ (k : ℕ). length (inRead p (own k .old) (own k .place)) ≡ 0) (same g) (no-read p (own p .old) (own p .place) calm) in
           omega (arith, one, none, few-name p (own n .named), held-most n)
         where
           same : suc p ≡ suc n → p ≡ n

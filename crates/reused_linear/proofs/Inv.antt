@@ -6,6 +6,7 @@ use mathlib.Core.Bool.{Bool, true, false, cond}
 use mathlib.Core.Logic.{_≢_, _⊎_}
 use mathlib.Core.List.{List}
 use lib.Dec.{eqb}
+use lib.ListN.{length}
 use borrow.Author.Tests.{eqb-true, eqb-false}
 use Rattle.word.specs.Word.{put}
 use Rattle.reused.specs.Steps.{announcedOf}
@@ -13,7 +14,7 @@ use Rattle.reused_linear.specs.Types.{Triple, Announced, Names, Holds, P
 use Rattle.reused_linear.specs.Arcs.{way}
 use Rattle.reused_linear.specs.Safe.{Safe}
 use Rattle.reused_linear.specs.Claims.{atChoice, OutsideLoad}
-use Rattle.reused_linear.proofs.Lists.{In, size}
+use Rattle.reused_linear.proofs.Lists.{In}
 use Rattle.reused_linear.proofs.Held.{Pending}
 
 -- N processes, intervals of D tags, M tags in all
@@ -82,7 +83,7 @@ pub record Nums (N D M : ℕ) (v : Owner) (s : Safe) (h : List ℕ) : Type 0 whe
   pub room : way M (s .start) (v .start) + D * left + D ≤ M
   pub looked : v .search ≤ way M (s .start) (v .tag)
   pub uses : way M (s .start) (v .tag) + N * left + N ≤ D + v .search
-  pub few : size h ≤ left
+  pub few : length h ≤ left
 
 -- X, if it holds a tag of p: it is in h from the next start on, and it is the last that p used; or, if p has used none of its safe
 -- interval yet, it is none of that.

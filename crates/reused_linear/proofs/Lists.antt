@@ -1,12 +1,13 @@
 -- Lists of numbers: what is in them, and how many.
 -- Assumes nothing.
 use Prim.Native.Nat.{ℕ, suc, _+_, _≤_, _<_}
-use mathlib.Core.Path.{_≡_, refl, sym, ap, subst}
+use mathlib.Core.Path.{_≡_, sym, ap, subst}
 use mathlib.Core.Bool.{Bool, true, false, cond}
 use mathlib.Core.Logic.{_⊎_, inl, inr}
-use mathlib.Core.List.{List, [], _∷_, _++_}
+use mathlib.Core.List.{List, [], _∷_, _++_, map}
 use native.Mathlib.Omega.{arith}
 use lib.Dec.{leb}
+use lib.ListN.{length}
 use borrow.Author.Tests.{le-leb, lt-leb}
 
 abbrev pub In : ℕ → List ℕ → Type 0
@@ -18,21 +19,7 @@ unfoldable pub from : ℕ → List ℕ → List ℕ
 from k [] = []
 from k (x ∷ xs) = cond (leb k x) (x ∷ from k xs) (from k xs)
 
-unfoldable pub each : (ℕ → ℕ) → List ℕ → List ℕ
-each f [] = []
-each f (x ∷ xs) = f x ∷ each f xs
-
-unfoldable pub size : List ℕ → ℕ
-size [] = 0
-size (x ∷ xs) = suc (size xs)
-
-pub size-append : (xs ys : List ℕ) → size (xs ++ ys) ≡ size xs + size ys
-unfolding size
-size-append [] ys = omega arith
-size-append (x ∷ xs) ys = omega (arith, size-append xs ys)
-
-pub in-some : (x : ℕ) (xs : List ℕ) → In x xs → 1 ≤ size xs
-unfolding size
+pub in-some : (x : ℕ) (xs : List ℕ) → In x xs → 1 ≤ length xs
 in-some x [] h = absurd h
 in-some x (y ∷ ys) h = omega arith
 
@@ -48,36 +35,30 @@ in-from k x (y ∷ ys) (inr h) l = go (leb k y) (in-from k x ys h l)
     go false i = i
 
 -- and the list only gets shorter, by one at least if something before k was in
-from-size : (k : ℕ) (xs : List ℕ) → size (from k xs) ≤ size xs
-unfolding from size
+from-size : (k : ℕ) (xs : List ℕ) → length (from k xs) ≤ length xs
+unfolding from
 from-size k [] = omega arith
 from-size k (y ∷ ys) = go (leb k y) (from-size k ys)
   where
-    go : (t : Bool) → size (from k ys) ≤ size ys → size (cond t (y ∷ from k ys) (from k ys)) ≤ suc (size ys)
+    go : (t : Bool) → length (from k ys) ≤ length ys → length (cond t (y ∷ from k ys) (from k ys)) ≤ suc (length ys)
     go true h = omega (arith, h)
     go false h = omega (arith, h)
 
-pub from-less : (k x : ℕ) (xs : List ℕ) → In x xs → x < k → size (from k xs) + 1 ≤ size xs
-unfolding from size
+pub from-less : (k x : ℕ) (xs : List ℕ) → In x xs → x < k → length (from k xs) + 1 ≤ length xs
+unfolding from
 from-less k x [] h l = absurd h
 from-less k x (y ∷ ys) (inl e) l =
-    subst (λ (t : Bool). size (cond t (y ∷ from k ys) (from k ys)) + 1 ≤ suc (size ys)) (sym (lt-leb k y (omega (arith, e, l)))) (omega (arith, from-size k ys))
+    subst (λ (t : Bool). length (cond t (y ∷ from k ys) (from k ys)) + 1 ≤ suc (length ys)) (sym (lt-leb k y (omega (arith, e, l)))) (omega (arith, from-size k ys))
 from-less k x (y ∷ ys) (inr h) l = go (leb k y) (from-less k x ys h l)
   where
-    go : (t : Bool) → size (from k ys) + 1 ≤ size ys → size (cond t (y ∷ from k ys) (from k ys)) + 1 ≤ suc (size ys)
+    go : (t : Bool) → length (from k ys) + 1 ≤ length ys → length (cond t (y ∷ from k ys) (from k ys)) + 1 ≤ suc (length ys)
     go true i = omega (arith, i)
     go false i = omega (arith, i)
 
-pub in-each : (f : ℕ → ℕ) (x : ℕ) (xs : List ℕ) → In x xs → In (f x) (each f xs)
-unfolding each
-in-each f x [] h = h
-in-each f x (y ∷ ys) (inl e) = inl (ap f e)
-in-each f x (y ∷ ys) (inr h) = inr (in-each f x ys h)
-
-pub each-size : (f : ℕ → ℕ) (xs : List ℕ) → size (each f xs) ≡ size xs
-unfolding each size
-each-size f [] = refl
-each-size f (x ∷ xs) = ap suc (each-size f xs)
+pub in-map : (f : ℕ → ℕ) (x : ℕ) (xs : List ℕ) → In x xs → In (f x) (map f xs)
+in-map f x [] h = h
+in-map f x (y ∷ ys) (inl e) = inl (ap f e)
+in-map f x (y ∷ ys) (inr h) = inr (in-map f x ys h)
 
 pub in-left : (x : ℕ) (xs ys : List ℕ) → In x xs → In x (xs ++ ys)
 in-left x [] ys h = absurd h

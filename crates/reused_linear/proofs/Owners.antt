@@ -3,15 +3,16 @@
 use Prim.Native.Nat.{ℕ, zero, suc, _+_, _*_, _≤_, _<_}
 use mathlib.Core.Path.{_≡_, refl, ap, subst}
 use mathlib.Core.Logic.{_⊎_, inl, inr}
-use mathlib.Core.List.{List}
+use mathlib.Core.List.{List, map}
 use native.Mathlib.Nat.{eq-or-lt-of-le}
 use native.Mathlib.Omega.{arith}
+use lib.ListN.{length, length-map}
 use Rattle.reused.specs.Circle.{ahead}
 use Rattle.reused_linear.specs.Types.{Triple, Announced, Names, Holds, Own}
 use Rattle.reused_linear.specs.Arcs.{way}
 use Rattle.reused_linear.specs.Safe.{Safe}
 use Rattle.reused_linear.proofs.Circle.{way-self, way-ahead, ahead-below, in-window, before-window}
-use Rattle.reused_linear.proofs.Lists.{In, from, each, size, in-some, in-from, from-less, in-each, each-size}
+use Rattle.reused_linear.proofs.Lists.{In, from, in-some, in-from, from-less, in-map}
 use Rattle.reused_linear.proofs.Held.{Pending}
 use Rattle.reused_linear.proofs.Inv.{Sizes, Owner, Linked, used, Nums, AtX, Pair}
 
@@ -35,7 +36,7 @@ abbrev pub newSafe : Owner → Safe
 newSafe v = record { start = v .start; jump = 0 }
 
 abbrev pub newPlaces : ℕ → Owner → List ℕ → List ℕ
-newPlaces M v tags = each (way M (v .start)) tags
+newPlaces M v tags = map (way M (v .start)) tags
 
 -- the first step of a store that is done
 abbrev pub storeOwner : Owner → Owner
@@ -196,7 +197,7 @@ module _ {N D M : ℕ} (sizes : Sizes N D M) where
         let on = way-ahead (v .start) (v .start) D (n .start) (n .start) (omega (arith, self, start-room, start-behind, some-tags)) in
         omega (arith, self, on)
 
-    pub nums-new : (tags : List ℕ) → size tags ≤ 2 * N → Nums N D M (newOwner D M v) (newSafe v) (newPlaces M v tags)
+    pub nums-new : (tags : List ℕ) → length tags ≤ 2 * N → Nums N D M (newOwner D M v) (newSafe v) (newPlaces M v tags)
     nums-new tags few =
         let self : way M (v .start) (v .start) ≡ 0 = way-self (v .start) (n .start) in
         record {
@@ -210,14 +211,14 @@ module _ {N D M : ℕ} (sizes : Sizes N D M) where
           room = omega (arith, new-start, sizes .all);
           looked = omega arith;
           uses = omega (arith, self, sizes .interval);
-          few = omega (arith, each-size (way M (v .start)) tags, few);
+          few = omega (arith, length-map tags (way M (v .start)), few);
         }
 
     pub atX-new : {x : Triple} {p : ℕ} (tags : List ℕ) → v .more ≡ 1 → x .tag .0 < M → (x .process .0 ≡ p → In (x .tag .0) tags)
         → AtX D M x v s h p → AtX D M x (newOwner D M v) (newSafe v) (newPlaces M v tags) p
     atX-new {x} {p} tags one low i a =
         record {
-          known = λ e l. in-each (way M (v .start)) (x .tag .0) tags (i e);
+          known = λ e l. in-map (way M (v .start)) (x .tag .0) tags (i e);
           last = λ e. inr (omega (arith, way-self (v .start) (n .start)), go (a .last e));
         }
       where
@@ -231,8 +232,8 @@ module _ {N D M : ℕ} (sizes : Sizes N D M) where
         → q ≤ v .search → Pair D M v s h p o q → Pair D M (newOwner D M v) (newSafe v) (newPlaces M v tags) p o q
     pair-new {p} {o} {q} tags named read clear last a =
         record {
-          named = λ b e f l. in-each (way M (v .start)) (b .tag .0) tags (named b e f);
-          read = λ w l e f i. in-each (way M (v .start)) (w .tag .0) tags (read w l e f);
+          named = λ b e f l. in-map (way M (v .start)) (b .tag .0) tags (named b e f);
+          read = λ w l e f i. in-map (way M (v .start)) (w .tag .0) tags (read w l e f);
           seen = λ w l e i. absurd (omega (arith, i));
           unused = λ w l e i. go w l e (eq-or-lt-of-le last);
         }

@@ -12,7 +12,6 @@ use Rattle.reused_linear.specs.Types.{Own}
 use Rattle.reused_linear.specs.Arcs.{way}
 use Rattle.reused_linear.specs.Safe.{firstSafe}
 use Rattle.reused_linear.proofs.Circle.{way-one}
-use Rattle.reused_linear.proofs.Lists.{size}
 use Rattle.reused_linear.proofs.Inv.{Sizes, ownerOf, Shape, Nums, AtX, Pair, Inv}
 use Rattle.reused_linear.proofs.Readers.{names-not, holds-not}
 use Rattle.reused_linear.proofs.Owners.{some-tags, atX-other}
@@ -40,7 +39,6 @@ module _ {N D M : ℕ} (sizes : Sizes N D M) where
       record { named = λ a e. absurd (names-not e); old = λ w e. absurd (holds-not e); loads = λ l. absurd l; shown = λ h. refl }
 
   nums-first : (t p : ℕ) → t ≤ 1 → Nums N D M (ownerOf (firstRow t D)) (firstSafe p) []
-  unfolding size
   nums-first t p few = go N refl
     where
       tags : 1 ≤ D
