@@ -14,7 +14,7 @@ use lib.Seq.{take-take, drop-drop, getD-append-add}
 use lib.Dec.{eqb, leb}
 use Rattle.numbers.proofs.Below.{listed-length, listed-at, same-below}
 use Rattle.schedule.specs.File.{count, entryBytes, noEntry, meant, laterNumber, blockEntries, blockAt, entriesTo}
-use Rattle.schedule.specs.Direct.{usedPart, acceptedPart, entryAt, partEntries}
+use Rattle.schedule.specs.Direct.{usedPart, acceptedPart, entryAt, fieldsOf, fieldsAt, partEntries}
 use Rattle.schedule.proofs.Laws.{part-length}
 
 -- a part of a part is a part of the whole
@@ -54,6 +54,12 @@ module _ (b : List ℕ) (room : 4 + 12 * count b ≤ length b) where
           let past : count b ≤ j = omega (arith, l) in
           rw (used-length, lt-leb (12 * j + 12) (12 * count b) (omega arith))
           (sym (List·getD-eq-default (blockEntries b) noEntry (rw (block-entries b) past)))
+
+  pub used-fields : (j : ℕ) → j < count b → fieldsAt (usedPart b) j ≡ fieldsOf (entryBytes b j)
+  unfolding fieldsAt
+  used-fields j l =
+      rw (used-length, le-leb (12 * j + 12) (12 * count b) (omega arith), used-is)
+      (ap fieldsOf (part-of-part (drop 4 b) (12 * j) 12 (12 * count b) (omega arith) ∙ ap (take 12) (drop-drop (12 * j) 4 b)))
 
 -- the entries of no block, and of one block more
 pub entries-none : (f : List ℕ) → entriesTo f 0 ≡ []

@@ -43,9 +43,9 @@ number-zero b p (suc n) =
 pub part-length : (l : List ℕ) (at n : ℕ) → at + n ≤ length l → length (take n (drop at l)) ≡ n
 part-length l at n h = length-take-le n (drop at l) (simp length-drop (omega arith))
 
--- one summand of a block's check
-pub weight-bound : (i x : ℕ) → i < 510 → x < 256 → (i + 1) * x ≤ 130050
-weight-bound i x hi hx = mul-le-mul {n₁ = i + 1} {m₁ = x} {n₂ = 510} {m₂ = 255} (omega arith) (omega arith)
+-- one summand of a block's check: a byte with a weight of at most m
+pub weight-bound : (m w x : ℕ) → w ≤ m → x < 256 → w * x ≤ m * 255
+weight-bound m w x h l = mul-le-mul {n₁ = w} {m₁ = x} {n₂ = m} {m₂ = 255} h (omega arith)
 
 -- past the end of a list there is nothing to add
 pub weighed-past : (b : List ℕ) (n m : ℕ) → length b ≤ n → weighed b (n + m) ≡ weighed b n

@@ -1,4 +1,5 @@
 pub mod Laws
+pub mod Halves
 pub mod Entries
 pub mod Accepted
 pub mod WorkedFile

@@ -5,8 +5,8 @@ use mathlib.Core.List.{List, []}
 use lib.ListN.{length, take, drop}
 use lib.Dec.{eqb, leb}
 use Rattle.numbers.specs.Numbers.{listBelow}
-use Rattle.schedule.specs.Types.{Reading, Refused, Accepted, FirstBlock, FirstRefused, Start, Entry, Block, BlockRefused, Entries}
-use Rattle.schedule.specs.File.{startN, startS, startV, firstNumber, placeWith, count, laterNumber, noEntry, meant}
+use Rattle.schedule.specs.Types.{Reading, Refused, Accepted, FirstBlock, FirstRefused, Start, Entry, Fields, Block, BlockRefused, Entries}
+use Rattle.schedule.specs.File.{startN, startS, startV, firstNumber, placeWith, kind, process, value, count, laterNumber, noEntry, meant}
 
 -- block 0 is refused by this number, with the place that goes with it
 abbrev pub firstRefused : ℕ → List ℕ → FirstBlock
@@ -38,6 +38,18 @@ acceptedPart b k = cond (eqb (length b) 512) (cond (eqb (laterNumber b k) 0) (us
 -- entry j of such a part: twelve bytes from place 12j on
 unfoldable pub entryAt : List ℕ → ℕ → Entry
 entryAt p j = cond (leb (12 * j + 12) (length p)) (meant (take 12 (drop (12 * j) p))) noEntry
+
+-- "Entry: byte 0 the kind .., byte 1 the process, .. 4 to 11 the value for SC": its fields, as they stand in its twelve bytes
+abbrev pub fieldsOf : List ℕ → Fields
+fieldsOf e = record { kind = kind e; process = process e; value = value e }
+
+-- where no entry stands: the fields of a step of process 255, as noEntry
+abbrev pub noFields : Fields
+noFields = record { kind = 4; process = 255; value = 0 }
+
+-- the fields of entry j of such a part
+unfoldable pub fieldsAt : List ℕ → ℕ → Fields
+fieldsAt p j = cond (leb (12 * j + 12) (length p)) (fieldsOf (take 12 (drop (12 * j) p))) noFields
 
 -- the first n entries that stand in such a part
 unfoldable pub partEntries : List ℕ → ℕ → List Entry

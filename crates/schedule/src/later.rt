@@ -1,5 +1,6 @@
 // The blocks after block 0, and the entries in them.
 use crate::Block;
+use crate::Fields;
 use crate::bytes::clear;
 use crate::bytes::eight;
 use crate::bytes::two;
@@ -16,7 +17,7 @@ ghost use mathlib.Core.Path.{_≡_};
 ghost use Prim.Native.Nat.{_≤_, _<_};
 ghost use lib.ListN.{length};
 ghost use Rattle.schedule.specs.File.{entryFine, entriesFine, laterFine, laterNumber, noEntry, meant};
-ghost use Rattle.schedule.specs.Direct.{laterOf, entryAt, usedPart, acceptedPart};
+ghost use Rattle.schedule.specs.Direct.{laterOf, entryAt, fieldsOf, noFields, fieldsAt, usedPart, acceptedPart};
 
 // Whether an entry has a kind that there is, and no stray byte. The bytes that should be zero are read as one number.
 fn entry_fine(e: &[u8]) -> bool
@@ -195,5 +196,46 @@ pub fn entry_at(part: &[u8], j: usize) -> Entry
         meaning(e)
     } else {
         no_entry()
+    }
+}
+
+// The answer where no entry's bytes stand: those of a step of process 255.
+fn no_fields() -> Fields
+    ensures { λ r. ⌜ r ≡ noFields ⌝ }
+{
+    Fields {
+        kind: 4,
+        process: 255,
+        value: 0,
+    }
+}
+
+// What an entry's twelve bytes say, with no test of the kind.
+fn fields(e: &[u8]) -> Fields
+    requires { ⌜ length (now e) ≡ 12 ⌝ }
+    ensures { λ r. ⌜ r ≡ fieldsOf (now (e .entry)) ⌝ }
+{
+    let kind = e[0];
+    let process = e[1];
+    let value = eight(e, 4);
+    Fields {
+        kind: kind,
+        process: process,
+        value: value,
+    }
+}
+
+// The fields of entry j of a part that holds entries.
+pub fn fields_at(part: &[u8], j: usize) -> Fields
+    ensures { λ r. ⌜ r ≡ fieldsAt (now (part .entry)) j ⌝ }
+{
+    let n = part.len() / 12;
+    if j < n {
+        let start = 12 * j;
+        let end = start + 12;
+        let e = &part[start..end];
+        fields(e)
+    } else {
+        no_fields()
     }
 }

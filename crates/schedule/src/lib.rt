@@ -12,6 +12,7 @@ pub use file::block_of;
 pub use file::read_file;
 pub use later::entries_of;
 pub use later::entry_at;
+pub use later::fields_at;
 pub use later::read_block;
 pub use later::used_entries;
 
@@ -25,6 +26,13 @@ pub enum FirstBlock {
 pub enum Block {
     BlockRefused(usize),
     Entries(usize),
+}
+
+// What the bytes of an entry say, field by field: its kind as document 01 numbers it, 1 to 4, its process, its value.
+pub struct Fields {
+    pub kind: u8,
+    pub process: u8,
+    pub value: u64,
 }
 
 // What a whole file says: the number that refuses it with the block where it was found and the place of the first stray byte or 0, or N,

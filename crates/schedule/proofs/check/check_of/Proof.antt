@@ -1,5 +1,5 @@
 -- `schedule::check::check_of` meets its contract: a slice that is shorter than 510 bytes is weighed to its end, and past the end
--- nothing is added.
+-- nothing is added; any other is weighed in halves.
 -- Assumes nothing.
 use borrow.Author.Needs.{needs}
 use mathlib.Core.Path.{_≡_, sym, ap, _∙_}
@@ -16,8 +16,8 @@ use Rattle.schedule.proofs.check.check_of.Tie as tie
 weigh-requires : tie.Need-weigh-requires
 weigh-requires c κs = search needs
 
-weigh-requires-2 : tie.Need-weigh-requires-2
-weigh-requires-2 c κs = search needs
+weigh-halves-requires : tie.Need-weigh-halves-requires
+weigh-halves-requires c κs = search needs
 
 returns : tie.Need-returns
 unfolding checkOf
@@ -29,7 +29,7 @@ returns c =
 
 returns-2 : tie.Need-returns-2
 unfolding checkOf
-returns-2 c = rw (c .weigh2 .ensures)
+returns-2 c = rw (c .weigh-halves .ensures)
 
 pub check-of-spec : {M : Type 1} → statement M
-check-of-spec = tie.close (tie.spec weigh-requires weigh-requires-2 returns returns-2)
+check-of-spec = tie.close (tie.spec weigh-requires weigh-halves-requires returns returns-2)

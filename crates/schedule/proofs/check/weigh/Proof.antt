@@ -2,7 +2,7 @@
 -- 510 times 255, so the sum fits.
 -- Assumes nothing.
 use mathlib.Core.Path.{_≡_, refl, ap, _∙_}
-use Prim.Native.Nat.{_≤_, _*_, _-_}
+use Prim.Native.Nat.{_≤_, _+_, _*_, _-_}
 use native.Mathlib.Omega.{arith}
 use native.Mathlib.Numerals.{add-one}
 use denote.Ref.{now}
@@ -33,10 +33,10 @@ cast-w : tie.Need-cast-w Inv-loop μ-loop
 cast-w c = omega arith
 
 mul-y : tie.Need-mul-y Inv-loop μ-loop
-mul-y c = omega (arith, weight-bound (c .before .before .before .loop .i) (c .wide .result) (omega arith) (omega arith))
+mul-y c = omega (arith, weight-bound 510 (c .before .before .before .loop .i + 1) (c .wide .result) (omega arith) (omega arith))
 
 add-sum : tie.Need-add-sum Inv-loop μ-loop
-add-sum c = omega (arith, weight-bound (c .before .before .before .loop .i) (c .wide .result) (omega arith) (omega arith))
+add-sum c = omega (arith, weight-bound 510 (c .before .before .before .loop .i + 1) (c .wide .result) (omega arith) (omega arith))
 
 add-i : tie.Need-add-i Inv-loop μ-loop
 add-i c = omega arith
@@ -47,7 +47,7 @@ loop-less c = omega arith
 loop-again : tie.Need-loop-again Inv-loop μ-loop
 loop-again c =
     let at-loop = c .before .before .before .loop in
-    let bound = weight-bound (at-loop .i) (c .wide .result) (omega arith) (omega arith) in
+    let bound = weight-bound 510 (at-loop .i + 1) (c .wide .result) (omega arith) (omega arith) in
     (omega arith, (omega (arith, bound), rw (add-one (at-loop .i), add-one (at-loop .i), at-loop .inv .1 .1, c .wide .ensures .0)))
 
 returns : tie.Need-returns Inv-loop μ-loop
