@@ -11,6 +11,7 @@ use Rattle.schedule.proofs.later.read_block
 use Rattle.schedule.proofs.later.used_entries
 use Rattle.schedule.proofs.later.entries_of
 use Rattle.schedule.proofs.later.entry_at
+use Rattle.schedule.proofs.later.fields_at
 
 module _ {M : Type 1} where
   pub read-first-determined : Determined M read_first.ended read_first.clauses read_first.spec
@@ -36,3 +37,6 @@ module _ {M : Type 1} where
 
   pub entry-at-determined : Determined M entry_at.ended entry_at.clauses entry_at.spec
   entry-at-determined = (λ 𝓤 H A mem run. refl, λ κs a k l. (same-result-too k l (k .met) (l .met), refl))
+
+  pub fields-at-determined : Determined M fields_at.ended fields_at.clauses fields_at.spec
+  fields-at-determined = (λ 𝓤 H A mem run. refl, λ κs a k l. (same-result k l (k .met) (l .met), refl))
