@@ -4,6 +4,7 @@
  *   rig --mutate SEED COUNT   hostile input of every length
  *   rig --texts SEED COUNT    random and damaged texts: the writer and the lister
  *   rig --speed               the two times side by side
+ *   rig --plays COUNT         one largest file so many times, for a counter of instructions; --plays-c by the rig's own bench
  *   rig --selftest            document 01's own runs and lines, and hand-made faults and texts */
 #include "mutate.h"
 #include "order.h"
@@ -107,7 +108,8 @@ static int run_mutate(uint64_t seed, uint64_t count)
 
 static int usage(void)
 {
-    printf("rig SEED COUNT | rig --mutate SEED COUNT | rig --texts SEED COUNT | rig --speed | rig --selftest\n");
+    printf("rig SEED COUNT | rig --mutate SEED COUNT | rig --texts SEED COUNT | rig --speed | rig --plays COUNT | rig --plays-c COUNT | "
+           "rig --selftest\n");
     return 2;
 }
 
@@ -127,6 +129,12 @@ int main(int argc, char **argv)
     }
     if (argc == 2 && strcmp(argv[1], "--speed") == 0) {
         return speed();
+    }
+    if (argc == 3 && strcmp(argv[1], "--plays") == 0 && number(argv[2], &count)) {
+        return plays(false, count);
+    }
+    if (argc == 3 && strcmp(argv[1], "--plays-c") == 0 && number(argv[2], &count)) {
+        return plays(true, count);
     }
     if (argc == 4 && strcmp(argv[1], "--mutate") == 0 && number(argv[2], &seed) && number(argv[3], &count)) {
         return run_mutate(seed, count);

@@ -61,19 +61,30 @@ static struct timed time_both(size_t length, size_t log_len, size_t entries)
     return (struct timed){median(reference), median(proved)};
 }
 
-static struct timed time_schedule(uint8_t processes, enum style style, size_t entries, size_t log_len)
+/* Makes the file, and gives its length. */
+static size_t file_of(uint8_t processes, enum style style, size_t entries)
 {
     struct prng r = prng_of(5, entries);
     schedule.processes = processes;
     schedule.last = UINT32_MAX;
     schedule.value = 7;
     schedule_fill(&r, &schedule, style, entries);
-    return time_both(schedule_packed(&schedule, file), log_len, entries);
+    return schedule_packed(&schedule, file);
+}
+
+static struct timed time_schedule(uint8_t processes, enum style style, size_t entries, size_t log_len)
+{
+    return time_both(file_of(processes, style, entries), log_len, entries);
 }
 
 static double ratio(struct timed t)
 {
     return t.proved / t.reference;
+}
+
+static double larger(double a, double b)
+{
+    return a > b ? a : b;
 }
 
 static double show_timed(uint8_t processes, enum style style, size_t entries, struct timed t)
@@ -100,28 +111,29 @@ static double show_largest(void)
     double worst = 0;
     show_titles("largest files (128 blocks):");
     for (size_t i = 0; i < sizeof styles / sizeof styles[0]; i++) {
-        double of_16 = show(16, styles[i], MOST_ENTRIES);
-        double of_2 = show(2, styles[i], MOST_ENTRIES);
-        worst = of_16 > worst ? of_16 : worst;
-        worst = of_2 > worst ? of_2 : worst;
+        worst = larger(worst, show(16, styles[i], MOST_ENTRIES));
+        worst = larger(worst, show(2, styles[i], MOST_ENTRIES));
     }
     return worst;
 }
 
-static void show_small(void)
+static double show_small(void)
 {
+    static const size_t entries[] = {11, 42};
+    double worst = 0;
     show_titles("small files:");
-    show(2, STYLE_POLITE, 11);
-    show(16, STYLE_POLITE, 11);
-    show(2, STYLE_POLITE, 42);
-    show(16, STYLE_POLITE, 42);
+    for (size_t i = 0; i < sizeof entries / sizeof entries[0]; i++) {
+        worst = larger(worst, show(2, STYLE_POLITE, entries[i]));
+        worst = larger(worst, show(16, STYLE_POLITE, entries[i]));
+    }
+    return worst;
 }
 
 /* With no log a file is read to its end and then refused by 6: reading without playing. */
-static void show_reading(void)
+static double show_reading(void)
 {
     show_titles("largest file, reading alone (no log lent, refused 6):");
-    show_timed(16, STYLE_POLITE, MOST_ENTRIES, time_schedule(16, STYLE_POLITE, MOST_ENTRIES, 0));
+    return show_timed(16, STYLE_POLITE, MOST_ENTRIES, time_schedule(16, STYLE_POLITE, MOST_ENTRIES, 0));
 }
 
 static void show_growth(void)
@@ -141,11 +153,19 @@ static void show_growth(void)
 int speed(void)
 {
     printf("time of one file, median of %d; ratio: proved run to reference\n", TIMES);
-    show_small();
+    double small = show_small();
     show_growth();
-    show_reading();
+    double reading = show_reading();
     speed_texts();
-    /* The worst of the largest files. */
-    printf("ratio largest %.2f\n", show_largest());
+    double largest = show_largest();
+    /* The worst of each. */
+    printf("ratio small %.2f, reading %.2f\nratio largest %.2f\n", small, reading, largest);
+    return 0;
+}
+
+int plays(bool by_reference, uint64_t count)
+{
+    size_t length = file_of(16, STYLE_SLOW_LOADERS, MOST_ENTRIES);
+    time_once(by_reference ? reference_run : reefcapstan_run, length, sizeof log_bytes, (size_t)count);
     return 0;
 }

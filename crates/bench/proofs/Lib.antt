@@ -1,3 +1,3 @@
 pub mod Turn
-pub mod Blocks
+pub mod Walk
 pub mod WholeRun

@@ -1,48 +1,61 @@
--- One turn of the loop over a part's entries: what the loop keeps, and why a turn keeps it.
+-- One turn of the loop over a block's entries: what the loop keeps, and why a turn keeps it.
 use Prim.Native.Nat.{ℕ, _+_, _-_, _*_, _≤_, _<_}
 use mathlib.Core.Path.{_≡_, refl, sym, ap, _∙_}
 use mathlib.Core.Bool.{Bool, true, false, cond, not}
-use mathlib.Core.List.{List, [], _∷_, _++_, map, map-append}
+use mathlib.Core.List.{List, [], _∷_, _++_, map, map-append, append-assoc}
 use native.Mathlib.Omega.{arith}
-use lib.Dec.{ltb}
-use lib.ListN.{length, take, drop, length-append, length-drop, length-map}
+use lib.Dec.{eqb, ltb}
+use lib.ListN.{length, take, drop, length-append, length-drop, length-map, take-append-drop}
+use lib.Seq.{length-take-le}
 use borrow.Author.Tests.{ltb-true}
-use Rattle.bench.specs.Types.{Process, Sequence, Version, Tag, Record, Entry, Kind, Ask, Step, Stepped, State, Answer}
-use Rattle.step.specs.Steps.{sameTag, toldOf}
+use Rattle.bench.specs.Types.{Process, Version, Tag, Place, Record, Outcome, Entry, Fields, Kind, Ask, Step, Stepped, State, Answer}
+use Rattle.step.specs.Steps.{sameTag, toldOf, reached, ownSteps}
 use Rattle.numbers.proofs.Range.{range-of}
 use Rattle.machine.specs.State.{rowAt, recordAt}
-use Rattle.machine.specs.Entry.{rowGiven, withEntry}
-use Rattle.machine.specs.Parts.{seatOf, playedParts}
+use Rattle.machine.specs.Entry.{withEntry}
+use Rattle.machine.specs.Parts.{seatOf, playedParts, requestBy, kindBy, stepsAhead}
 use Rattle.machine.specs.Frame.{Ready}
-use Rattle.machine.specs.Run.{EntryNote, played, noteOf, notes, after, changeCount, stepsBy, markBy}
+use Rattle.machine.specs.Run.{EntryNote, played, noteOf, notes, after, changeCount, turnedAway, stepsBy, markBy}
 use Rattle.machine.proofs.Soundness.{sure}
 use Rattle.machine.proofs.Writers.{record-same}
-use Rattle.machine.proofs.RunLaws.{ready-after, after-append, notes-append, count-append, size-kept, notes-length, count-most}
-use Rattle.machine.proofs.PartsOfRun.{seat, given, played-by-parts, seat-within, given-within}
-use Rattle.schedule.specs.Direct.{entryAt, partEntries}
+use Rattle.machine.proofs.RunLaws.{ready-after, after-append, notes-append, count-append, notes-length, count-most}
+use Rattle.machine.proofs.PartsOfRun.{seat, reach, played-by-parts, seat-within, reach-within}
+use Rattle.schedule.specs.Direct.{entryAt, fieldsAt, partEntries}
 use Rattle.schedule.proofs.Entries.{part-more, part-count}
 use Rattle.log.specs.Log.{laid, recordOf, recordsOf}
 use Rattle.log.specs.declared.Note as log
 use Rattle.log.proofs.Laws.{record-length, records-length, records-more, grown}
-use Rattle.bench.specs.Play.{recordFrom, playedFrom, recordsFrom}
+use Rattle.bench.specs.Play.{recordFrom}
 use Rattle.bench.specs.Bench.{inLog}
+
+-- The steps that the log says are those that were ahead, and none where the entry was turned away.
+steps-ahead : (place : Place) (code v : ℕ) (outcome : Outcome) → stepsBy place (kindBy code v) outcome ≡ cond (turnedAway outcome) 0 (stepsAhead place code)
+steps-ahead place code v outcome = go (eqb code 4)
+  where
+    none : (t : Bool) → _≡_ {A = ℕ} 0 (cond t 0 0)
+    none true = refl
+    none false = refl
+
+    go : (b : Bool) → stepsBy place (cond b Step (Ask (requestBy code v))) outcome ≡ cond (turnedAway outcome) 0 (cond b (ownSteps place) 0)
+    go true = refl
+    go false = none (turnedAway outcome)
 
 -- The record that is written is the note of the run: where the process is not there, no steps are counted whatever the place, and no mark is
 -- given whatever the tags.
 module _ (st : State) (e : Entry) (h : Ready st) where
   abbrev left : Stepped
-  left = playedParts (st .n) (st .s) (e .process) (st .x) (recordAt st (seat st e .0)) (rowAt st (given st e .0)) (e .kind)
+  left = playedParts (st .n) (st .s) (e .process) (st .x) (recordAt st (seat st e .0)) (rowAt st (reach st e .0)) (e .kind)
 
   steps-same : (b : Bool) (kind : Kind) → ltb (e .process .0) (st .n) ≡ b
-      → stepsBy (recordAt st (cond {A = Process} b (e .process) (record { 0 = 0 }) .0) .place) kind (playedParts (st .n) (st .s) (e .process) (st .x) (recordAt st (cond {A = Process} b (e .process) (record { 0 = 0 }) .0)) (rowAt st (given st e .0)) kind .outcome)
-      ≡ stepsBy (recordAt st (e .process .0) .place) kind (playedParts (st .n) (st .s) (e .process) (st .x) (recordAt st (cond {A = Process} b (e .process) (record { 0 = 0 }) .0)) (rowAt st (given st e .0)) kind .outcome)
+      → stepsBy (recordAt st (cond {A = Process} b (e .process) (record { 0 = 0 }) .0) .place) kind (playedParts (st .n) (st .s) (e .process) (st .x) (recordAt st (cond {A = Process} b (e .process) (record { 0 = 0 }) .0)) (rowAt st (reach st e .0)) kind .outcome)
+      ≡ stepsBy (recordAt st (e .process .0) .place) kind (playedParts (st .n) (st .s) (e .process) (st .x) (recordAt st (cond {A = Process} b (e .process) (record { 0 = 0 }) .0)) (rowAt st (reach st e .0)) kind .outcome)
   unfolding playedParts
   steps-same true kind t = refl
   steps-same false (Ask request) t = refl
   steps-same false Step t = rw t
 
   -- where an entry leads
-  pub state-left : played st e .state ≡ withEntry st (seat st e) (given st e) left
+  pub state-left : played st e .state ≡ withEntry st (seat st e) (reach st e) left
   state-left = ap (λ (a : Answer). a .state) (played-by-parts st e h)
 
   -- 11 has no mark, whatever the tags
@@ -51,27 +64,37 @@ module _ (st : State) (e : Entry) (h : Ready st) where
   no-mark t x x′ kept kept′ = rw t
 
   -- the mark goes by the kept tag of the record that is written back
-  mark-same : markBy (toldOf (left .outcome) .number) (left .x) (recordAt (withEntry st (seat st e) (given st e) left) (e .process .0) .kept)
+  mark-same : markBy (toldOf (left .outcome) .number) (left .x) (recordAt (withEntry st (seat st e) (reach st e) left) (e .process .0) .kept)
       ≡ markBy (toldOf (left .outcome) .number) (left .x) (left .own .kept)
   mark-same = go (ltb (e .process .0) (st .n)) refl
     where
       go : (b : Bool) → ltb (e .process .0) (st .n) ≡ b
-          → markBy (toldOf (left .outcome) .number) (left .x) (recordAt (withEntry st (cond b (e .process) (record { 0 = 0 })) (given st e) left) (e .process .0) .kept)
+          → markBy (toldOf (left .outcome) .number) (left .x) (recordAt (withEntry st (cond b (e .process) (record { 0 = 0 })) (reach st e) left) (e .process .0) .kept)
           ≡ markBy (toldOf (left .outcome) .number) (left .x) (left .own .kept)
       go true t =
           ap (λ (r : Record). markBy (toldOf (left .outcome) .number) (left .x) (r .kept))
-          (record-same st (e .process) (given st e) left
+          (record-same st (e .process) (reach st e) left
           (omega (arith, ltb-true (e .process .0) (st .n) t, range-of (st .n) (st .s) (sure h .range) .few, h .full .records)))
       go false t = no-mark t (left .x) (left .x) _ (left .own .kept)
 
-  pub note-written : inLog (noteOf st e) ≡ recordFrom (e .process .0) (e .kind) (recordAt st (seat st e .0) .place) (left .outcome) (left .x) (left .own .kept)
-  note-written =
-      ap (λ (a : Answer). recordFrom (e .process .0) (e .kind) (recordAt st (e .process .0) .place) (a .outcome) (a .state .x) (recordAt (a .state) (e .process .0) .kept))
-      (played-by-parts st e h)
-      ∙ ap (λ (k : ℕ). counted k (markBy (toldOf (left .outcome) .number) (left .x) (recordAt (withEntry st (seat st e) (given st e) left) (e .process .0) .kept)))
-      (sym (steps-same (ltb (e .process .0) (st .n)) (e .kind) refl))
+  pub note-written : (ahead : ℕ) → stepsBy (recordAt st (seat st e .0) .place) (e .kind) (left .outcome) ≡ cond (turnedAway (left .outcome)) 0 ahead
+      → inLog (noteOf st e) ≡ recordFrom (e .process .0) ahead (left .outcome) (left .x) (left .own .kept)
+  note-written ahead taken =
+      ap said (played-by-parts st e h)
+      ∙ ap (λ (k : ℕ). counted k (markBy (toldOf (left .outcome) .number) (left .x) (recordAt (withEntry st (seat st e) (reach st e) left) (e .process .0) .kept)))
+      (sym (steps-same (ltb (e .process .0) (st .n)) (e .kind) refl) ∙ taken)
       ∙ ap (counted _) mark-same
     where
+      said : Answer → log.Note
+      said a =
+          record {
+            outcome = toldOf (a .outcome) .number;
+            process = e .process .0;
+            steps = stepsBy (recordAt st (e .process .0) .place) (e .kind) (a .outcome);
+            mark = markBy (toldOf (a .outcome) .number) (a .state .x) (recordAt (a .state) (e .process .0) .kept);
+            value = toldOf (a .outcome) .value;
+          }
+
       counted : ℕ → ℕ → log.Note
       counted steps mark =
           record {
@@ -86,135 +109,157 @@ module _ (st : State) (e : Entry) (h : Ready st) where
   unfolding changeCount
   change-counted = ap (λ (after : State). cond (not (sameTag (st .x) (after .x))) 1 0) state-left
 
--- What the loop keeps: after j turns it stands where the run of the first j entries does.
-pub record Turn (part rest₀ : List ℕ) (n : ℕ) (s : Sequence) (end : ℕ) (st₀ : State) (changes₀ : Version) (rest : List ℕ) (st : State) (changes : Version) (j : ℕ) : Type 0 where
-  pub within : j ≤ end
-  pub size : st₀ .n ≡ n
-  pub last : st₀ .s ≡ s
-  pub ready : Ready st₀
-  pub room : 12 * end ≤ length rest₀
-  pub few : changes₀ .0 + end < 4294967295
-  pub state : st ≡ after st₀ (partEntries part j)
-  pub count : changes .0 ≡ changes₀ .0 + changeCount (notes st₀ (partEntries part j))
-  pub log : rest ≡ recordsOf (map inLog (notes st₀ (partEntries part j))) ++ drop (12 * j) rest₀
+-- the entry that the fields of its bytes ask for
+abbrev pub asked : Fields → Entry
+asked e = record { process = record { 0 = e .process }; kind = kindBy (e .kind) (e .value) }
 
-pub turn-start : (part rest₀ : List ℕ) (end : ℕ) (st₀ : State) (changes₀ : Version) → Ready st₀ → 12 * end ≤ length rest₀ → changes₀ .0 + end < 4294967295
-    → Turn part rest₀ (st₀ .n) (st₀ .s) end st₀ changes₀ rest₀ st₀ changes₀ 0
+-- What the loop over a block's entries keeps. The block began at entry i₁ of the file, with this state, count and log; after j turns all three
+-- are those of the run of the block's first j entries from there.
+pub record Turn (part rest₁ : List ℕ) (end i₁ : ℕ) (st₁ : State) (changes₁ : Version) (rest : List ℕ) (st : State) (changes : Version) (i j : ℕ) : Type 0 where
+  pub ready : Ready st₁
+  pub read : (k : ℕ) → k < end → entryAt part k ≡ asked (fieldsAt part k)
+  pub low : i₁ + end ≤ 5334
+  pub room : 12 * (i₁ + end) ≤ length rest₁
+  pub few : changes₁ .0 + end < 4294967295
+  pub within : j ≤ end
+  pub place : i ≡ i₁ + j
+  pub state : st ≡ after st₁ (partEntries part j)
+  pub count : changes .0 ≡ changes₁ .0 + changeCount (notes st₁ (partEntries part j))
+  pub log : rest ≡ (take (12 * i₁) rest₁ ++ recordsOf (map inLog (notes st₁ (partEntries part j)))) ++ drop (12 * i) rest₁
+
+pub turn-start : (part rest₁ : List ℕ) (end i₁ : ℕ) (st₁ : State) (changes₁ : Version) → Ready st₁
+    → ((k : ℕ) → k < end → entryAt part k ≡ asked (fieldsAt part k)) → i₁ + end ≤ 5334 → 12 * (i₁ + end) ≤ length rest₁ → changes₁ .0 + end < 4294967295
+    → Turn part rest₁ end i₁ st₁ changes₁ rest₁ st₁ changes₁ i₁ 0
 unfolding partEntries after notes changeCount recordsOf
-turn-start part rest₀ end st₀ changes₀ h room few =
-    record { within = omega arith; size = refl; last = refl; ready = h; room = room; few = few; state = refl; count = omega arith; log = refl }
+turn-start part rest₁ end i₁ st₁ changes₁ h read low room few =
+    record {
+      ready = h;
+      read = read;
+      low = low;
+      room = room;
+      few = few;
+      within = omega arith;
+      place = omega arith;
+      state = refl;
+      count = omega arith;
+      log = sym (append-assoc (take (12 * i₁) rest₁) [] (drop (12 * i₁) rest₁) ∙ take-append-drop (12 * i₁) rest₁);
+    }
 
 -- The notes of one entry more.
-module _ (part : List ℕ) (st₀ : State) (j : ℕ) where
+module _ (part : List ℕ) (st₁ : State) (j : ℕ) where
   abbrev es : List Entry
   es = partEntries part j
 
   abbrev next : Entry
   next = entryAt part j
 
-  after-more : after st₀ (partEntries part (j + 1)) ≡ played (after st₀ es) next .state
+  after-more : after st₁ (partEntries part (j + 1)) ≡ played (after st₁ es) next .state
   unfolding after
-  after-more = rw (part-more part j) (after-append st₀ es (next ∷ []))
+  after-more = rw (part-more part j) (after-append st₁ es (next ∷ []))
 
-  notes-more : notes st₀ (partEntries part (j + 1)) ≡ notes st₀ es ++ (noteOf (after st₀ es) next ∷ [])
+  notes-more : notes st₁ (partEntries part (j + 1)) ≡ notes st₁ es ++ (noteOf (after st₁ es) next ∷ [])
   unfolding notes
-  notes-more = rw (part-more part j) (notes-append st₀ es (next ∷ []))
+  notes-more = rw (part-more part j) (notes-append st₁ es (next ∷ []))
 
-  pub records-so-far : length (recordsOf (map inLog (notes st₀ es))) ≡ 12 * j
+  records-so-far : length (recordsOf (map inLog (notes st₁ es))) ≡ 12 * j
   records-so-far = rw (records-length, length-map, notes-length, part-count)
 
-module _ {part rest₀ : List ℕ} {n : ℕ} {s : Sequence} {end : ℕ} {st₀ : State} {changes₀ : Version} {rest : List ℕ} {st : State} {changes : Version} {j : ℕ}
-    (h : Turn part rest₀ n s end st₀ changes₀ rest st changes j) where
+module _ {part rest₁ : List ℕ} {end i₁ : ℕ} {st₁ : State} {changes₁ : Version} {rest : List ℕ} {st : State} {changes : Version} {i j : ℕ}
+    (h : Turn part rest₁ end i₁ st₁ changes₁ rest st changes i j) where
   ready-now : Ready st
-  ready-now = rw (h .state) (ready-after st₀ (partEntries part j) (h .ready))
+  ready-now = rw (h .state) (ready-after st₁ (partEntries part j) (h .ready))
 
-  size-now : st .n ≡ n
-  size-now = rw (h .state) (size-kept st₀ (partEntries part j) .0 ∙ h .size)
+  abbrev so-far : List ℕ
+  so-far = take (12 * i₁) rest₁ ++ recordsOf (map inLog (notes st₁ (partEntries part j)))
 
-  last-now : st .s ≡ s
-  last-now = rw (h .state) (size-kept st₀ (partEntries part j) .1 ∙ h .last)
+  written-so-far : length so-far ≡ 12 * i
+  written-so-far =
+      rw (length-append, length-take-le (12 * i₁) rest₁ (omega (arith, h .room)), records-so-far part st₁ j, h .place) (omega arith)
 
-  -- The turn itself, said of what the loop's calls gave: the entry, its seat and row, what it left, its record, the count, the log.
+  -- The turn itself, said of what the loop's calls gave: the entry's fields, its seat and record, the steps ahead of it, its row, what it left,
+  -- its record in the log, the count, the log.
   pub turn-next : j < end
-      → (e : Entry) → e ≡ entryAt part j
-      → (i q : Process) → i ≡ seatOf n (e .process) → q ≡ rowGiven i (recordAt st (i .0)) (e .kind)
-      → (m : Stepped) → m ≡ playedParts n s (e .process) (st .x) (recordAt st (i .0)) (rowAt st (q .0)) (e .kind)
-      → (note : log.Note) → note ≡ recordFrom (e .process .0) (e .kind) (recordAt st (i .0) .place) (m .outcome) (m .x) (m .own .kept)
+      → (e : Fields) → e ≡ fieldsAt part j
+      → (a : Process) → a ≡ seatOf (st .n) (record { 0 = e .process })
+      → (own : Record) → own ≡ recordAt st (a .0)
+      → (ahead : ℕ) → ahead ≡ stepsAhead (own .place) (e .kind)
+      → (q : Process) → q ≡ reached a own
+      → (m : Stepped) → m ≡ playedParts (st .n) (st .s) (record { 0 = e .process }) (st .x) own (rowAt st (q .0)) (kindBy (e .kind) (e .value))
+      → (note : log.Note) → note ≡ recordFrom (e .process) ahead (m .outcome) (m .x) (m .own .kept)
       → (changes′ : Version) → changes′ .0 ≡ changes .0 + cond (not (sameTag (st .x) (m .x))) 1 0
-      → (back : List ℕ) → back ≡ laid (recordOf note) (take (length rest - 12 * j) (drop (12 * j) rest))
-      → Turn part rest₀ n s end st₀ changes₀ (take (12 * j) rest ++ (back ++ drop (length rest - 12 * j) (drop (12 * j) rest))) (withEntry st i q m) changes′ (j + 1)
-  turn-next l e is i q at row m goes note says changes′ counts back laid′ =
+      → (back : List ℕ) → back ≡ laid (recordOf note) (take (length rest - 12 * i) (drop (12 * i) rest))
+      → Turn part rest₁ end i₁ st₁ changes₁ (take (12 * i) rest ++ (back ++ drop (length rest - 12 * i) (drop (12 * i) rest))) (withEntry st a q m) changes′ (i + 1) (j + 1)
+  turn-next l e is a at own found ahead counts q row m goes note says changes′ total back lays =
       record {
-        within = omega arith;
-        size = h .size;
-        last = h .last;
         ready = h .ready;
+        read = h .read;
+        low = h .low;
         room = h .room;
         few = h .few;
-        state = rw (left-is, row-is, seat-is) (sym (now-after ∙ state-left st e ready-now));
-        count = omega (arith, counts, h .count, total);
-        log = grown done (recordOf note) rest₀ rest back (12 * j) (records-so-far part st₀ j) (omega (arith, record-length note, h .room)) (h .log) laid′ ∙ rw (record-length note, place, more);
+        within = omega arith;
+        place = omega (arith, h .place);
+        state = rw (left-is, row-is, seat-is) (sym (now-after ∙ state-left st (asked e) ready-now));
+        count = omega (arith, total, h .count, more-changes);
+        log =
+            grown so-far (recordOf note) rest₁ rest back (12 * i) written-so-far (omega (arith, record-length note, h .room, h .place)) (h .log) lays
+            ∙ rw (record-length note, place, append-assoc (take (12 * i₁) rest₁) (recordsOf (map inLog (notes st₁ (partEntries part j)))) (recordOf note), more);
       }
     where
-      seat-is : i ≡ seat st e
-      seat-is = rw size-now at
+      seat-is : a ≡ seat st (asked e)
+      seat-is = at
 
-      row-is : q ≡ given st e
-      row-is = row ∙ ap (λ (k : Process). rowGiven k (recordAt st (k .0)) (e .kind)) seat-is
+      row-is : q ≡ reach st (asked e)
+      row-is = rw (row, found, seat-is)
 
-      left-is : m ≡ playedParts (st .n) (st .s) (e .process) (st .x) (recordAt st (seat st e .0)) (rowAt st (given st e .0)) (e .kind)
-      left-is = cc (goes, size-now, last-now, seat-is, row-is)
+      left-is : m ≡ playedParts (st .n) (st .s) (asked e .process) (st .x) (recordAt st (seat st (asked e) .0)) (rowAt st (reach st (asked e) .0)) (asked e .kind)
+      left-is = cc (goes, found, seat-is, row-is)
 
-      done : List ℕ
-      done = recordsOf (map inLog (notes st₀ (partEntries part j)))
+      entry-is : entryAt part j ≡ asked e
+      entry-is = h .read j l ∙ ap asked (sym is)
 
-      now-after : after st₀ (partEntries part (j + 1)) ≡ played st e .state
-      now-after = rw (h .state, is) (after-more part st₀ j)
+      now-after : after st₁ (partEntries part (j + 1)) ≡ played st (asked e) .state
+      now-after = after-more part st₁ j ∙ rw (h .state, entry-is)
 
-      note-now : noteOf (after st₀ (partEntries part j)) (entryAt part j) ≡ noteOf st e
-      note-now = rw (h .state, is)
+      note-now : noteOf (after st₁ (partEntries part j)) (entryAt part j) ≡ noteOf st (asked e)
+      note-now = rw (h .state, entry-is)
 
-      total : changeCount (notes st₀ (partEntries part (j + 1))) ≡ changeCount (notes st₀ (partEntries part j)) + cond (not (sameTag (st .x) (m .x))) 1 0
-      total =
-          rw (notes-more part st₀ j, count-append, note-now, left-is)
-          (ap (λ (k : ℕ). changeCount (notes st₀ (partEntries part j)) + k) (change-counted st e ready-now))
+      more-changes : changeCount (notes st₁ (partEntries part (j + 1))) ≡ changeCount (notes st₁ (partEntries part j)) + cond (not (sameTag (st .x) (m .x))) 1 0
+      more-changes =
+          rw (notes-more part st₁ j, count-append, note-now, left-is)
+          (ap (λ (k : ℕ). changeCount (notes st₁ (partEntries part j)) + k) (change-counted st (asked e) ready-now))
 
-      note-is : note ≡ inLog (noteOf st e)
-      note-is = cc (says, note-written st e ready-now, seat-is, left-is)
+      place-is : own .place ≡ recordAt st (seat st (asked e) .0) .place
+      place-is = rw (found, seat-is)
 
-      more : done ++ recordOf note ≡ recordsOf (map inLog (notes st₀ (partEntries part (j + 1))))
-      more = rw (notes-more part st₀ j, map-append, records-more, note-is) (ap (λ (w : EntryNote). done ++ recordOf (inLog w)) (sym note-now))
+      taken : stepsBy (recordAt st (seat st (asked e) .0) .place) (asked e .kind) (m .outcome) ≡ cond (turnedAway (m .outcome)) 0 ahead
+      taken = rw (counts, place-is) (steps-ahead (recordAt st (seat st (asked e) .0) .place) (e .kind) (e .value) (m .outcome))
 
-      place : 12 * j + 12 ≡ 12 * (j + 1)
+      note-is : note ≡ inLog (noteOf st (asked e))
+      note-is = says ∙ rw left-is (sym (note-written st (asked e) ready-now ahead (rw (← left-is) taken)))
+
+      more : recordsOf (map inLog (notes st₁ (partEntries part j))) ++ recordOf note ≡ recordsOf (map inLog (notes st₁ (partEntries part (j + 1))))
+      more =
+          rw (notes-more part st₁ j, map-append, records-more, note-is)
+          (ap (λ (w : EntryNote). recordsOf (map inLog (notes st₁ (partEntries part j))) ++ recordOf (inLog w)) (sym note-now))
+
+      place : 12 * i + 12 ≡ 12 * (i + 1)
       place = omega arith
 
   -- seat and row are within the 16, and the count within its type
-  pub seat-there : (e : Entry) (i : Process) → i ≡ seatOf n (e .process) → i .0 < 16
-  seat-there e i at = rw (at, ← size-now) (seat-within st e ready-now)
+  pub seat-there : (e : Fields) (a : Process) → a ≡ seatOf (st .n) (record { 0 = e .process }) → a .0 < 16
+  seat-there e a at = rw at (seat-within st (asked e) ready-now)
 
-  pub row-there : (e : Entry) (i q : Process) → i ≡ seatOf n (e .process) → q ≡ rowGiven i (recordAt st (i .0)) (e .kind) → q .0 < 16
-  row-there e i q at row = rw (row, at, ← size-now) (given-within st e ready-now)
+  pub row-there : (e : Fields) (a : Process) → a ≡ seatOf (st .n) (record { 0 = e .process })
+      → (own : Record) → own ≡ recordAt st (a .0) → (q : Process) → q ≡ reached a own → q .0 < 16
+  row-there e a at own found q row = rw (row, found, at) (reach-within st (asked e) ready-now)
 
   pub count-low : j < end → changes .0 < 4294967295
   count-low l =
-      let most = count-most (notes st₀ (partEntries part j)) in
-      let long = notes-length st₀ (partEntries part j) in
+      let most = count-most (notes st₁ (partEntries part j)) in
+      let long = notes-length st₁ (partEntries part j) in
       let short = part-count part j in
       omega (arith, most, long, short, h .count, h .few, l)
 
   -- the log is as long as it was lent
-  pub log-length : length rest ≡ length rest₀
-  log-length = rw (h .log, length-append, records-so-far part st₀ j, length-drop) (omega (arith, h .room, h .within))
-
-  -- after the last turn
-  pub turn-end : end ≤ j
-      → (record { state = st; changes = changes } ≡ playedFrom (record { state = st₀; changes = changes₀ }) (partEntries part end))
-      × (rest ≡ recordsFrom (record { state = st₀; changes = changes₀ }) (partEntries part end) rest₀)
-  unfolding playedFrom recordsFrom
-  turn-end l = (played-is, rw (part-count part end, ← top) (h .log))
-    where
-      top : j ≡ end
-      top = omega (arith, h .within, l)
-
-      played-is : record { state = st; changes = changes } ≡ playedFrom (record { state = st₀; changes = changes₀ }) (partEntries part end)
-      played-is = rw (← top) (λ k. record { state = h .state k; changes = record { 0 = h .count k } })
+  pub log-length : length rest ≡ length rest₁
+  log-length = rw (h .log, length-append, written-so-far, length-drop) (omega (arith, h .room, h .within, h .place))

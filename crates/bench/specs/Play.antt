@@ -1,20 +1,21 @@
 -- A run that goes on from a state and a count of changes: where it comes to, and the records that it writes.
 use Prim.Native.Nat.{ℕ, _+_, _*_}
+use mathlib.Core.Bool.{cond}
 use mathlib.Core.List.{List, _++_, map}
 use lib.ListN.{length, drop}
 use Rattle.step.specs.Steps.{toldOf}
 use Rattle.bench.specs.Bench.{inLog}
-use Rattle.bench.specs.Types.{Entry, Kind, Place, Outcome, Tag, Note, Played}
-use Rattle.machine.specs.Run.{stepsBy, markBy, notes, after, changeCount}
+use Rattle.bench.specs.Types.{Entry, Outcome, Tag, Note, Played}
+use Rattle.machine.specs.Run.{turnedAway, markBy, notes, after, changeCount}
 use Rattle.log.specs.Log.{recordsOf}
 
--- the record of an entry of process p, from the place before it, its outcome, and X and p's kept tag after it
-abbrev pub recordFrom : ℕ → Kind → Place → Outcome → Tag → Tag → Note
-recordFrom p kind place outcome x kept =
+-- the record of an entry of process p, from the own steps that were ahead of it, its outcome, and X and p's kept tag after it
+abbrev pub recordFrom : ℕ → ℕ → Outcome → Tag → Tag → Note
+recordFrom p ahead outcome x kept =
     record {
       outcome = toldOf outcome .number;
       process = p;
-      steps = stepsBy place kind outcome;
+      steps = cond (turnedAway outcome) 0 ahead;
       mark = markBy (toldOf outcome .number) x kept;
       value = toldOf outcome .value;
     }

@@ -8,12 +8,14 @@ pub use Rattle.step.specs.declared.Kind.the-variants.{Ask, Step}
 pub use Rattle.step.specs.declared.Outcome.{Outcome}
 pub use Rattle.step.specs.declared.Place.{Place}
 pub use Rattle.step.specs.declared.Record.{Record}
+pub use Rattle.step.specs.declared.Request.the-variants.{Load, Store, Check}
 pub use Rattle.step.specs.declared.Stepped.{Stepped}
 pub use Rattle.step.specs.declared.Tag.{Tag}
 pub use Rattle.machine.specs.declared.Answer.{Answer}
 pub use Rattle.machine.specs.declared.Start.{Start}
 pub use Rattle.machine.specs.declared.Started.{Started}
 pub use Rattle.machine.specs.declared.State.{State}
+pub use Rattle.schedule.specs.declared.Fields.{Fields}
 pub use Rattle.schedule.specs.declared.Reading.{Reading}
 pub use Rattle.schedule.specs.declared.Reading.the-variants.{Refused, Accepted}
 pub use Rattle.log.specs.declared.Note.{Note}

@@ -2,8 +2,8 @@
 use machine::State;
 use numbers::Version;
 
+mod entries;
 pub mod note;
-mod part;
 pub mod whole;
 
 // What a run returns: 0 or what turned the file away, in which block, the place of a stray byte or 0, and the state after the last entry

@@ -2,15 +2,13 @@
 ghost use mathlib.Core.Path.{_≡_};
 ghost use mathlib.Core.Bool.{cond, not};
 ghost use Prim.Native.Nat.{_+_, _<_};
+ghost use lib.Dec.{leb};
 ghost use Rattle.step.specs.Steps.{sameTag};
 ghost use Rattle.machine.specs.Run.{markBy};
 ghost use Rattle.bench.specs.Play.{recordFrom};
 use log::Note;
-use machine::parts::steps_by;
 use numbers::Version;
-use step::Kind;
 use step::Outcome;
-use step::Place;
 use step::Tag;
 use step::answer::tell;
 use step::number::same_tag;
@@ -26,14 +24,21 @@ fn mark_by(number: u8, x: Tag, kept: Tag) -> u8
     }
 }
 
-// The log's record of an entry whose process stood at `place`, that came to `outcome`, and after which X and the process's kept tag
-// are these.
-pub fn note_of(process: u8, kind: Kind, place: Place, outcome: Outcome, x: Tag, kept: Tag) -> Note
-    ensures { λ r. ⌜ r ≡ recordFrom process kind place outcome x kept ⌝ }
+// The own steps that the log says: those that were ahead of the entry, and none where it was turned away.
+fn steps_by(number: u8, ahead: u8) -> u8
+    ensures { λ r. ⌜ r ≡ cond (leb 11 number) 0 ahead ⌝ }
+{
+    if 11 <= number { 0 } else { ahead }
+}
+
+// The log's record of an entry that had `ahead` own steps ahead of it, that came to `outcome`, and after which X and the process's kept
+// tag are these. The outcome is told once.
+pub fn note_of(process: u8, ahead: u8, outcome: Outcome, x: Tag, kept: Tag) -> Note
+    ensures { λ r. ⌜ r ≡ recordFrom process ahead outcome x kept ⌝ }
 {
     let told = tell(outcome);
-    let steps = steps_by(place, kind, outcome);
     let number = told.number;
+    let steps = steps_by(number, ahead);
     let mark = mark_by(number, x, kept);
     let value = told.value;
     Note {

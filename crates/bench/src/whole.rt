@@ -1,16 +1,12 @@
 // The whole run of a file with a lent log.
 ghost use mathlib.Core.Path.{_≡_};
-ghost use mathlib.Core.Bool.{true};
 ghost use Prim.Native.Nat.{_+_, _*_, _≤_, _<_};
 ghost use lib.ListN.{length};
-ghost use Rattle.schedule.specs.File.{reading, fileEntries};
-ghost use Rattle.schedule.specs.Direct.{isAccepted};
-ghost use Rattle.machine.specs.Frame.{Ready};
-ghost use Rattle.bench.specs.Play.{playedFrom, recordsFrom};
+ghost use Rattle.schedule.specs.File.{reading};
 ghost use Rattle.bench.specs.Bench.{ranNot, notesOf, lastState, written, ranBy, logBy, ranOf, logAfter};
 use crate::Played;
 use crate::Ran;
-use crate::part::play_part;
+use crate::entries::play_entries;
 use log::write::lay_head;
 ghost use Rattle.log.specs.Log.{logLength};
 use machine::State;
@@ -19,32 +15,7 @@ use machine::opening::zero_state;
 use numbers::Sequence;
 use numbers::Version;
 use schedule::Reading;
-use schedule::block_of;
 use schedule::read_file;
-use schedule::used_entries;
-
-// The blocks after block 0 in turn, each through the part with its entries.
-fn play_blocks(file: &[u8], rest: &mut [u8], from: Played) -> Played
-    requires { ⌜ (isAccepted (reading (now file)) ≡ true) × (Ready (from .state)) × (12 * length (fileEntries (now file)) ≤ length (now rest)) × (from .changes .0 + length (fileEntries (now file)) < 4294967295) ⌝ }
-    ensures { λ r. ⌜ (r ≡ playedFrom from (fileEntries (now (file .entry)))) × (now (rest .exit) ≡ recordsFrom from (fileEntries (now (file .entry))) (now (rest .entry))) ⌝ }
-{
-    let after = file.len() / 512 - 1;
-    let mut played = from;
-    let mut done = 0;
-    let mut i = 0;
-    while done < after {
-        let k = done + 1;
-        let b = block_of(file, k);
-        let part = used_entries(b);
-        let c = part.len() / 12;
-        let at = 12 * i;
-        let next = play_part(part, &mut rest[at..], played);
-        played = next;
-        i = i + c;
-        done = k;
-    }
-    played
-}
 
 fn turn_away(number: usize, block: usize, place: usize) -> Ran
     ensures { λ r. ⌜ r ≡ ranNot number block place ⌝ }
@@ -73,7 +44,7 @@ fn run_entries(file: &[u8], log: &mut [u8], n: u8, s: u64, v: u64, entries: usiz
     };
     let count = entries as u32;
     lay_head(log, count, Version(0), n);
-    let played = play_blocks(file, &mut log[12..], from);
+    let played = play_entries(file, &mut log[12..], from);
     let last = played.state;
     let changes = played.changes;
     lay_head(log, count, changes, n);

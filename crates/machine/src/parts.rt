@@ -3,8 +3,7 @@
 ghost use mathlib.Core.Path.{_≡_};
 ghost use Rattle.step.specs.Steps.{requestOf};
 ghost use Rattle.machine.specs.Entry.{rowGiven, withParts, partsAfter};
-ghost use Rattle.machine.specs.Parts.{seatOf, playedParts};
-ghost use Rattle.machine.specs.Run.{stepsBy};
+ghost use Rattle.machine.specs.Parts.{seatOf, playedParts, requestBy, kindBy, stepsAhead};
 use numbers::Process;
 use numbers::Sequence;
 use step::Kind;
@@ -15,7 +14,6 @@ use step::Request;
 use step::Row;
 use step::Stepped;
 use step::Tag;
-use step::answer::tell;
 use step::call::own_steps;
 use step::call::reached_row;
 use step::call::request;
@@ -70,21 +68,48 @@ pub(crate) fn parts_after(
     }
 }
 
-// An entry of process p, given X, its record and its row.
-pub fn play_parts(
+// What the kind byte of a request and its value ask.
+fn request_by(code: u8, value: u64) -> Request
+    ensures { λ r. ⌜ r ≡ requestBy code value ⌝ }
+{
+    if code == 1 {
+        return Request::Load;
+    }
+    if code == 2 {
+        return Request::Store(value);
+    }
+    Request::Check
+}
+
+// The same for an entry that is asked as a file asks it, by its kind byte and its value. A step is told from a request by the byte, with no
+// `Kind` in between.
+fn parts_by(s: Sequence, p: Process, x: Tag, own: Record, row: Row, code: u8, value: u64) -> Stepped
+    ensures { λ r. ⌜ r ≡ partsAfter s p x own row (kindBy code value) ⌝ }
+{
+    if code == 4 {
+        step(p, x, own, row)
+    } else {
+        let wanted = request_by(code, value);
+        ask_parts(s, x, own, row, wanted)
+    }
+}
+
+// An entry of process p as a file asks it, given X, its record and its row.
+pub fn play_coded(
     n: usize,
     s: Sequence,
     p: Process,
     x: Tag,
     own: Record,
     row: Row,
-    kind: Kind,
+    code: u8,
+    value: u64,
 ) -> Stepped
-    ensures { λ r. ⌜ r ≡ playedParts n s p x own row kind ⌝ }
+    ensures { λ r. ⌜ r ≡ playedParts n s p x own row (kindBy code value) ⌝ }
 {
     let i = p.0;
     if i < n {
-        parts_after(s, p, x, own, row, kind)
+        parts_by(s, p, x, own, row, code, value)
     } else {
         Stepped {
             x: x,
@@ -95,15 +120,9 @@ pub fn play_parts(
     }
 }
 
-// How many own steps the log says of an entry, by the place before it and its outcome.
-pub fn steps_by(place: Place, kind: Kind, outcome: Outcome) -> u8
-    ensures { λ r. ⌜ r ≡ stepsBy place kind outcome ⌝ }
+// How many own steps the log says of an entry that is not turned away, by the place before it.
+pub fn steps_ahead(place: Place, code: u8) -> u8
+    ensures { λ r. ⌜ r ≡ stepsAhead place code ⌝ }
 {
-    let told = tell(outcome);
-    let number = told.number;
-    let steps = own_steps(place);
-    match kind {
-        Kind::Ask(_) => 0,
-        Kind::Step => { if 11 <= number { 0 } else { steps } }
-    }
+    if code == 4 { own_steps(place) } else { 0 }
 }

@@ -8,8 +8,8 @@ use Rattle.machine.proofs.opening.start
 use Rattle.machine.proofs.opening.start_number
 use Rattle.machine.proofs.parts.seat_of
 use Rattle.machine.proofs.parts.row_given
-use Rattle.machine.proofs.parts.play_parts
-use Rattle.machine.proofs.parts.steps_by
+use Rattle.machine.proofs.parts.play_coded
+use Rattle.machine.proofs.parts.steps_ahead
 use Rattle.machine.proofs.sound.tag_is_sound
 use Rattle.machine.proofs.sound.next_is_sound
 use Rattle.machine.proofs.sound.record_is_sound
@@ -35,11 +35,11 @@ module _ {M : Type 1} where
   pub row-given-determined : Determined M row_given.ended row_given.clauses row_given.spec
   row-given-determined = (λ 𝓤 H A mem run. refl, λ κs a k l. (same-result k l (k .met) (l .met), refl))
 
-  pub play-parts-determined : Determined M play_parts.ended play_parts.clauses play_parts.spec
-  play-parts-determined = (λ 𝓤 H A mem run. refl, λ κs a k l. (same-result k l (k .met) (l .met), refl))
+  pub play-coded-determined : Determined M play_coded.ended play_coded.clauses play_coded.spec
+  play-coded-determined = (λ 𝓤 H A mem run. refl, λ κs a k l. (same-result k l (k .met) (l .met), refl))
 
-  pub steps-by-determined : Determined M steps_by.ended steps_by.clauses steps_by.spec
-  steps-by-determined = (λ 𝓤 H A mem run. refl, λ κs a k l. (same-result k l (k .met) (l .met), refl))
+  pub steps-ahead-determined : Determined M steps_ahead.ended steps_ahead.clauses steps_ahead.spec
+  steps-ahead-determined = (λ 𝓤 H A mem run. refl, λ κs a k l. (same-result k l (k .met) (l .met), refl))
 
   pub tag-is-sound-determined : Determined M tag_is_sound.ended tag_is_sound.clauses tag_is_sound.spec
   tag-is-sound-determined = (λ 𝓤 H A mem run. refl, λ κs a k l. (same-result k l (k .met) (l .met), refl))

@@ -6,6 +6,7 @@ use Rattle.step.proofs.answer.tell
 use Rattle.step.proofs.call.request
 use Rattle.step.proofs.call.reached_row
 use Rattle.step.proofs.call.own_steps
+use Rattle.step.proofs.call.fresh
 use Rattle.step.proofs.call.step
 use Rattle.step.proofs.number.old_in_range
 use Rattle.step.proofs.number.same_tag
@@ -22,6 +23,9 @@ module _ {M : Type 1} where
 
   pub own-steps-determined : Determined M own_steps.ended own_steps.clauses own_steps.spec
   own-steps-determined = (λ 𝓤 H A mem run. refl, λ κs a k l. (same-result k l (k .met) (l .met), refl))
+
+  pub fresh-determined : Determined M fresh.ended fresh.clauses fresh.spec
+  fresh-determined = (λ 𝓤 H A mem run. refl, λ κs a k l. (same-result k l (k .met) (l .met), refl))
 
   pub step-determined : Determined M step.ended step.clauses step.spec
   step-determined = (λ 𝓤 H A mem run. refl, λ κs a k l. (same-result k l (k .met) (l .met), refl))

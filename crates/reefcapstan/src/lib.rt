@@ -1,5 +1,7 @@
 // The door for C: every exported function, thin over the crates below, and nothing else. `rt staticlib reefcapstan` makes the one archive
-// that people link with the one header. Only `reefcapstan_run` reaches the machine's steps.
+// that people link with the one header. Only `reefcapstan_run` reaches the machine's steps, and it must stay the only one: then the
+// compiler makes one function of the whole run. With a second root that reaches them (a direct call, say) the run takes up to half as long
+// again (docs/SPEED.md), so such an export belongs into an archive of its own.
 ghost use mathlib.Core.Path.{_≡_};
 ghost use mathlib.Core.Bool.{cond};
 ghost use Prim.Native.Nat.{_≤_, _<_};

@@ -81,6 +81,40 @@ pub fn request(last: Sequence, own: Record, request: Request) -> Requested
     }
 }
 
+// The same call place, made anew. A place that is carried whole takes along the seven bytes between its tag and its value, which mean
+// nothing and cost much (docs/SPEED.md).
+fn fresh_place(place: Place) -> Place
+    ensures { λ r. ⌜ r ≡ place ⌝ }
+{
+    match place {
+        Place::Idle => Place::Idle,
+        Place::Load1 => Place::Load1,
+        Place::Load2 => Place::Load2,
+        Place::Load3(v) => Place::Load3(v),
+        Place::Load5 => Place::Load5,
+        Place::Store7(v) => Place::Store7(v),
+        Place::Store8 => Place::Store8,
+        Place::Store9 => Place::Store9,
+        Place::Store10 => Place::Store10,
+        Place::Check14 => Place::Check14,
+    }
+}
+
+// The same record with its call place made anew, for a loop that has just read it.
+pub fn fresh(own: Record) -> Record
+    ensures { λ r. ⌜ r ≡ own ⌝ }
+{
+    let kept = own.kept;
+    let next = own.next;
+    let place = own.place;
+    let anew = fresh_place(place);
+    Record {
+        kept: kept,
+        next: next,
+        place: anew,
+    }
+}
+
 // Which process's row the next step is to be given.
 pub fn reached_row(p: Process, own: Record) -> Process
     ensures { λ r. ⌜ r ≡ reached p own ⌝ }

@@ -1,4 +1,4 @@
--- Number and value are the table's; the steps are counted by the place, and the mark goes by X and the kept tag.
+-- Number and value are the table's; the steps are those ahead of an entry that was not turned away, and the mark goes by X and the kept tag.
 -- Assumes nothing.
 use borrow.Author.Needs.{needs}
 use Rattle.bench.proofs.note.note_of.Statement.{statement}

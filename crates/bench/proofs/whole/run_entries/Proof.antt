@@ -26,17 +26,17 @@ cast-count c =
 lay-head-requires : tie.Need-lay-head-requires
 lay-head-requires c κs = search needs
 
-sub-play-blocks : tie.Need-sub-play-blocks
-sub-play-blocks c = search needs
+sub-play-entries : tie.Need-sub-play-entries
+sub-play-entries c = search needs
 
-part-play-blocks-start : tie.Need-part-play-blocks-start
-part-play-blocks-start c = search needs
+part-play-entries-start : tie.Need-part-play-entries-start
+part-play-entries-start c = search needs
 
-part-play-blocks-end : tie.Need-part-play-blocks-end
-part-play-blocks-end c = search needs
+part-play-entries-end : tie.Need-part-play-entries-end
+part-play-entries-end c = search needs
 
-play-blocks-requires : tie.Need-play-blocks-requires
-play-blocks-requires c κs =
+play-entries-requires : tie.Need-play-entries-requires
+play-entries-requires c κs =
     let start = c .before .before .before .before .before .before .before .before .before in
     let f = now (start .args .file) in
     let n = start .args .n in
@@ -65,8 +65,8 @@ returns c =
     let v = start .args .v in
     let k = start .args .entries in
     let is = start .pre .0 in (
-      last-is f n s v k is _ (c .before .before .before .before .before .before .before .before .before .before .before .before .before .before .before .start .ensures) _ (start .pre .1) _ (c .before .before .before .before .before .before .before .before .before .before .before .before .lay-head .ensures) _ (c .before .before .before .before .before .before .before .before .play-blocks .ensures .0) _ (c .before .before .before .before .before .before .before .before .play-blocks .ensures .1),
-      log-is f n s v k is _ (c .before .before .before .before .before .before .before .before .before .before .before .before .before .before .before .start .ensures) _ (start .pre .1) _ (c .before .before .before .before .before .before .before .before .before .before .before .before .lay-head .ensures) _ (c .before .before .before .before .before .before .before .before .play-blocks .ensures .0) _ (c .before .before .before .before .before .before .before .before .play-blocks .ensures .1) _ (c .before .before .lay-head2 .ensures),
+      last-is f n s v k is _ (c .before .before .before .before .before .before .before .before .before .before .before .before .before .before .before .start .ensures) _ (start .pre .1) _ (c .before .before .before .before .before .before .before .before .before .before .before .before .lay-head .ensures) _ (c .before .before .before .before .before .before .before .before .play-entries .ensures .0) _ (c .before .before .before .before .before .before .before .before .play-entries .ensures .1),
+      log-is f n s v k is _ (c .before .before .before .before .before .before .before .before .before .before .before .before .before .before .before .start .ensures) _ (start .pre .1) _ (c .before .before .before .before .before .before .before .before .before .before .before .before .lay-head .ensures) _ (c .before .before .before .before .before .before .before .before .play-entries .ensures .0) _ (c .before .before .before .before .before .before .before .before .play-entries .ensures .1) _ (c .before .before .lay-head2 .ensures),
     )
 
 pub run-entries-spec : {M : Type 1} → statement M
@@ -76,10 +76,10 @@ run-entries-spec =
     start-requires
     cast-count
     lay-head-requires
-    sub-play-blocks
-    part-play-blocks-start
-    part-play-blocks-end
-    play-blocks-requires
+    sub-play-entries
+    part-play-entries-start
+    part-play-entries-end
+    play-entries-requires
     lay-head-requires-2
     same-length
     returns)
