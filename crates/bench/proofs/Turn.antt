@@ -28,7 +28,7 @@ use Rattle.log.proofs.Laws.{record-length, records-length, records-more, grown}
 use Rattle.bench.specs.Play.{recordFrom}
 use Rattle.bench.specs.Bench.{inLog}
 
--- The steps that the log says are those that were ahead, and none where the entry was turned away.
+-- The steps that the log says are those that were counted before the entry, and none where it was turned away.
 steps-ahead : (place : Place) (code v : ℕ) (outcome : Outcome) → stepsBy place (kindBy code v) outcome ≡ cond (turnedAway outcome) 0 (stepsAhead place code)
 steps-ahead place code v outcome = go (eqb code 4)
   where

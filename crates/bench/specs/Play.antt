@@ -9,7 +9,8 @@ use Rattle.bench.specs.Types.{Entry, Outcome, Tag, Note, Played}
 use Rattle.machine.specs.Run.{turnedAway, markBy, notes, after, changeCount}
 use Rattle.log.specs.Log.{recordsOf}
 
--- the record of an entry of process p, from the own steps that were ahead of it, its outcome, and X and p's kept tag after it
+-- the record of an entry of process p, from the own steps that it has unless it is turned away, its outcome, and X and p's kept tag after
+-- it
 abbrev pub recordFrom : ℕ → ℕ → Outcome → Tag → Tag → Note
 recordFrom p ahead outcome x kept =
     record {

@@ -57,6 +57,7 @@ pub(crate) fn play_entries(file: &[u8], rest: &mut [u8], from: Played) -> Played
             let reached = reached_row(seat, own);
             let q = reached.0;
             let row = rows[q];
+            // The own steps are counted before the step, by its place: behind it the count would be one more jump at every place.
             let place = own.place;
             let ahead = steps_ahead(place, code);
             let m = play_coded(n, s, p, x, own, row, code, value);

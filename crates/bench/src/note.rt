@@ -24,21 +24,21 @@ fn mark_by(number: u8, x: Tag, kept: Tag) -> u8
     }
 }
 
-// The own steps that the log says: those that were ahead of the entry, and none where it was turned away.
-fn steps_by(number: u8, ahead: u8) -> u8
+// The own steps that the log says: those that were counted before the entry, and none where it was turned away.
+fn steps_told(number: u8, ahead: u8) -> u8
     ensures { λ r. ⌜ r ≡ cond (leb 11 number) 0 ahead ⌝ }
 {
     if 11 <= number { 0 } else { ahead }
 }
 
-// The log's record of an entry that had `ahead` own steps ahead of it, that came to `outcome`, and after which X and the process's kept
-// tag are these. The outcome is told once.
+// The log's record of an entry that came to `outcome`, and after which X and the process's kept tag are these. `ahead` is the number of own
+// steps that it has unless it was turned away (`steps_ahead`). The outcome is told once.
 pub fn note_of(process: u8, ahead: u8, outcome: Outcome, x: Tag, kept: Tag) -> Note
     ensures { λ r. ⌜ r ≡ recordFrom process ahead outcome x kept ⌝ }
 {
     let told = tell(outcome);
     let number = told.number;
-    let steps = steps_by(number, ahead);
+    let steps = steps_told(number, ahead);
     let mark = mark_by(number, x, kept);
     let value = told.value;
     Note {

@@ -14,11 +14,12 @@ seatOf n p = cond (ltb (p .0) n) p (record { 0 = 0 })
 unfoldable pub playedParts : ℕ → Sequence → Process → Tag → Record → Row → Kind → Stepped
 playedParts n s p x own row kind = cond (ltb (p .0) n) (partsAfter s p x own row kind) (asWas x own row NoProcess)
 
--- "byte 0 the kind (1 LL, 2 SC, 3 VL request, 4 step), .. 4 to 11 the value for SC": what such a byte and such a value ask. A file with
--- any other byte there is refused, so no run comes to one.
+-- what a kind byte that is not 4, and the value beside it, ask
 abbrev pub requestBy : ℕ → ℕ → Request
 requestBy code v = cond (eqb code 1) Load (cond (eqb code 2) (Store v) Check)
 
+-- "byte 0 the kind (1 LL, 2 SC, 3 VL request, 4 step), .. 4 to 11 the value for SC": what such a byte and such a value ask. A file with
+-- any other byte there is refused, so no run comes to one.
 abbrev pub kindBy : ℕ → ℕ → Kind
 kindBy code v = cond (eqb code 4) Step (Ask (requestBy code v))
 

@@ -1,5 +1,6 @@
-// An entry over small parts, for a direct call and for a loop that keeps the state itself: which record and which row the entry is given, and what
-// it leaves of X and of these two. Nothing here looks whether the state is sound.
+// An entry over small parts, for a direct call and for a loop that keeps the state itself: which record and which row the entry is given,
+// and what it leaves of X and of these two. A direct call is asked by a `Kind`, the loop by `code`, the kind byte of a file's entry (1 LL,
+// 2 SC, 3 VL, 4 step), and its value. Nothing here looks whether the state is sound.
 ghost use mathlib.Core.Path.{_≡_};
 ghost use Rattle.step.specs.Steps.{requestOf};
 ghost use Rattle.machine.specs.Entry.{rowGiven, withParts, partsAfter};
@@ -27,8 +28,8 @@ pub fn seat_of(n: usize, p: Process) -> Process
     if i < n { p } else { Process(0) }
 }
 
-// Whose row it is given: a step's is the one that it reaches, a request's its own.
-pub fn row_given(p: Process, own: Record, kind: Kind) -> Process
+// Whose row it is given in a direct call: a step's is the one that it reaches, a request's its own.
+pub(crate) fn row_given(p: Process, own: Record, kind: Kind) -> Process
     ensures { λ r. ⌜ r ≡ rowGiven p own kind ⌝ }
 {
     match kind {
@@ -81,8 +82,7 @@ fn request_by(code: u8, value: u64) -> Request
     Request::Check
 }
 
-// The same for an entry that is asked as a file asks it, by its kind byte and its value. A step is told from a request by the byte, with no
-// `Kind` in between.
+// What an entry of p leaves, asked as a file asks it. A step is told from a request by the byte, with no `Kind` in between.
 fn parts_by(s: Sequence, p: Process, x: Tag, own: Record, row: Row, code: u8, value: u64) -> Stepped
     ensures { λ r. ⌜ r ≡ partsAfter s p x own row (kindBy code value) ⌝ }
 {

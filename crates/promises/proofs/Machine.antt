@@ -7,7 +7,6 @@ use Rattle.machine.proofs.opening.zero_state
 use Rattle.machine.proofs.opening.start
 use Rattle.machine.proofs.opening.start_number
 use Rattle.machine.proofs.parts.seat_of
-use Rattle.machine.proofs.parts.row_given
 use Rattle.machine.proofs.parts.play_coded
 use Rattle.machine.proofs.parts.steps_ahead
 use Rattle.machine.proofs.sound.tag_is_sound
@@ -31,9 +30,6 @@ module _ {M : Type 1} where
 
   pub seat-of-determined : Determined M seat_of.ended seat_of.clauses seat_of.spec
   seat-of-determined = (λ 𝓤 H A mem run. refl, λ κs a k l. (same-result k l (k .met) (l .met), refl))
-
-  pub row-given-determined : Determined M row_given.ended row_given.clauses row_given.spec
-  row-given-determined = (λ 𝓤 H A mem run. refl, λ κs a k l. (same-result k l (k .met) (l .met), refl))
 
   pub play-coded-determined : Determined M play_coded.ended play_coded.clauses play_coded.spec
   play-coded-determined = (λ 𝓤 H A mem run. refl, λ κs a k l. (same-result k l (k .met) (l .met), refl))

@@ -1,7 +1,8 @@
 // The door for C: every exported function, thin over the crates below, and nothing else. `rt staticlib reefcapstan` makes the one archive
 // that people link with the one header. Only `reefcapstan_run` reaches the machine's steps, and it must stay the only one: then the
-// compiler makes one function of the whole run. With a second root that reaches them (a direct call, say) the run takes up to half as long
-// again (docs/SPEED.md), so such an export belongs into an archive of its own.
+// compiler makes one function of all that plays a file (the reader, which the lister shares, stays one of its own). With a second root that
+// reaches the steps (a direct call, say) the run takes up to half as long again (docs/SPEED.md), so such an export belongs in an archive of
+// its own.
 ghost use mathlib.Core.Path.{_≡_};
 ghost use mathlib.Core.Bool.{cond};
 ghost use Prim.Native.Nat.{_≤_, _<_};

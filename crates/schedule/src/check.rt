@@ -39,7 +39,7 @@ fn full(x: u16) -> u32
     x as u32
 }
 
-// The same sum over all 510 places, both halves of them in one loop. A byte of the second half weighs 255 more than the one that stands
+// What `weigh` gives of all 510 places, with both halves of them in one loop. A byte of the second half weighs 255 more than the one that stands
 // at its place in the first: in the loop it gets that one's weight, and 255 times the bytes of the second half are added at the end. So
 // each product fits 16 bits, and the compiler can make many at once.
 fn weigh_halves(b: &[u8]) -> u32

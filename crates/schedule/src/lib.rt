@@ -28,7 +28,7 @@ pub enum Block {
     Entries(usize),
 }
 
-// What the bytes of an entry say, field by field: its kind as document 01 numbers it, 1 to 4, its process, its value.
+// What the bytes of an entry say, field by field: its kind byte (1 to 4 in an accepted file), its process, its value.
 pub struct Fields {
     pub kind: u8,
     pub process: u8,
