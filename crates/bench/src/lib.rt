@@ -1,4 +1,6 @@
 // The bench: a schedule file and a lent log in, a number and every byte of the log out.
+#![tactic(auto)]
+
 use machine::State;
 use numbers::Version;
 

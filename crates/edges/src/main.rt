@@ -1,5 +1,7 @@
 // Document 01's "By program" lines, and what block 0 is refused with, run through the proved run. What this program prints is held to the
 // file stdout beside it.
+#![tactic(auto)]
+
 ghost use Rattle.std.specs.Prelude.{◌+◌, ◌*◌, ◌≤◌, length};
 
 use bench::whole::run;

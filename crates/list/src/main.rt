@@ -1,5 +1,7 @@
 // Lists a schedule file: the file on standard input, its text on standard output. Every byte of the text and of a refusal comes from proved
 // functions on byte slices (lister: the text, text: the line of a refusal); this program only moves bytes.
+#![tactic(auto)]
+
 use libc::{STDERR_FILENO, STDIN_FILENO, STDOUT_FILENO};
 use lister::list_file;
 

@@ -1,4 +1,6 @@
 // The text of a schedule file (document 02, P1).
+#![tactic(auto)]
+
 mod length;
 pub mod listing;
 mod put;
@@ -6,7 +8,7 @@ mod put;
 pub use listing::list_file;
 
 // What came of a file: 0 or what turned it away, in which block, the place of a stray byte or 0, and how many bytes of text were written.
-#[derive(Drop)]
+#[derive(Clone, Copy)]
 pub struct Listed {
     pub number: usize,
     pub block: usize,

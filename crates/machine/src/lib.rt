@@ -1,5 +1,7 @@
 // The whole machine as one value: start, the soundness test, and a direct call of one of four kinds. A caller may hand in any
 // state whatever; what is unsound is turned away before anything else is looked at.
+#![tactic(auto)]
+
 use numbers::Sequence;
 use step::{Outcome, Record, Row, Tag};
 

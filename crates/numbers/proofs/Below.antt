@@ -36,6 +36,7 @@ module _ {A : Type 0} where
   listed_length (suc n) f = rw (length-append, listed_length n f) (omega arith)
 
   pub listed_at : (n : ℕ) (f : ℕ → A) (d : A) (j : ℕ) → j < n → get_or (list_below n f) j d ≡ f j
+  listed_at zero f d j h = elim h [ ]
   listed_at (suc n) f d j h = go (λ l. listed_at n f d j l) (dec_lt j n)
     where
       go : (j < n → get_or (list_below n f) j d ≡ f j) → Dec (j < n) → get_or (list_below n f ++ (f n ∷ [])) j d ≡ f j

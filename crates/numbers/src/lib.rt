@@ -1,16 +1,18 @@
 // What every floor above counts with: the three kinds of number that are never taken for one another, their ranges, the first refusal
 // that is found, bytes at a width in which sums of them fit, and flags that are joined with no branch for a proof to follow.
+#![tactic(auto)]
+
 ghost use Rattle.std.specs.Prelude.{◌≡◌, ◌&&◌, ◌||◌, ◌<◌};
 ghost use Rattle.numbers.specs.Numbers.{in_range_n, in_range_s, in_range, number_unless, first_found, range_number};
 
 // A process number, a sequence number and a count of changes are three types, so that none is taken for another.
-#[derive(Drop)]
+#[derive(Clone, Copy)]
 pub struct Process(pub usize);
 
-#[derive(Drop)]
+#[derive(Clone, Copy)]
 pub struct Sequence(pub u64);
 
-#[derive(Drop)]
+#[derive(Clone, Copy)]
 pub struct Version(pub u64);
 
 // N is 1 to 16.

@@ -1,5 +1,7 @@
 // Plays a schedule file: standard input to standard output. Everything that is printed comes from proved functions on byte
 // slices (bench: the run, text: the lines); this program only moves bytes.
+#![tactic(auto)]
+
 use bench::whole::run;
 use libc::{STDERR_FILENO, STDIN_FILENO, STDOUT_FILENO};
 use run_log::HeadFound;

@@ -3,6 +3,8 @@
 // compiler makes one function of all that plays a file (the reader, which the lister shares, stays one of its own). With a second root that
 // reaches the steps (a direct call, say) the run takes up to half as long again (docs/SPEED.md), so such an export belongs in an archive of
 // its own.
+#![tactic(auto)]
+
 ghost use Rattle.std.specs.Prelude.{◌≡◌, cond, ◌≤◌, ◌<◌, eqb};
 ghost use Rattle.bench.specs.Bench.{log_after};
 ghost use Rattle.writer.specs.Writer.{written_in};

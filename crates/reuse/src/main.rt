@@ -1,5 +1,7 @@
 // Plays a text of the machine with reused numbers: standard input to standard output. Everything that is printed comes from proved functions
 // on byte slices (reused_text: the run, text: the lines); this program only moves bytes.
+#![tactic(auto)]
+
 use libc::{STDERR_FILENO, STDIN_FILENO, STDOUT_FILENO};
 use reused_text::play_text;
 use text::line::{write_head_of, write_refused_text_line};

@@ -2,6 +2,8 @@
 // of M numbers. The whole machine is one value: start, the soundness test, and a direct call of one of four kinds; and the same entry
 // over the few parts that it can reach, for a loop that keeps the state itself. A caller may hand in anything whatever; what is unsound
 // is turned away before anything else is looked at.
+#![tactic(auto)]
+
 mod choice;
 mod circle;
 pub mod direct;
@@ -14,11 +16,11 @@ pub mod tell;
 use numbers::Process;
 
 // A number of the circle, from 0 and below M: a tag, or the start of an interval of tags. Never taken for a process.
-#[derive(Drop)]
+#[derive(Clone, Copy)]
 pub struct Point(pub u64);
 
 // What X holds, and what a process keeps of it: the tag, whose store it was, and the bit.
-#[derive(Drop)]
+#[derive(Clone, Copy)]
 pub struct Triple {
     pub tag: Point,
     pub process: Process,
@@ -26,27 +28,27 @@ pub struct Triple {
 }
 
 // What a process has kept of X.
-#[derive(Drop)]
+#[derive(Clone, Copy)]
 pub enum Kept {
     Nothing,
     Holds(Triple),
 }
 
 // What a process announces in its place of A: whose store it has read, and by which tag.
-#[derive(Drop)]
+#[derive(Clone, Copy)]
 pub struct Announced {
     pub process: Process,
     pub tag: Point,
 }
 
-#[derive(Drop)]
+#[derive(Clone, Copy)]
 pub enum Named {
     Nobody,
     Names(Announced),
 }
 
 // Where a process stands in its call: idle, or before the step of that number of a load, a store or a check.
-#[derive(Drop)]
+#[derive(Clone, Copy)]
 pub enum Place {
     Idle,
     Load1,
@@ -59,7 +61,7 @@ pub enum Place {
 
 // What only one process writes: its place of A, which every process can read, and what is private to it: old and check, its next tag, its
 // next start, its search place, and where it stands in its call.
-#[derive(Drop)]
+#[derive(Clone, Copy)]
 pub struct Own {
     pub named: Named,
     pub old: Kept,
@@ -80,14 +82,14 @@ pub struct State {
 }
 
 // The word's value: whose store it was, and the bit.
-#[derive(Drop)]
+#[derive(Clone, Copy)]
 pub struct Stored {
     pub process: Process,
     pub bit: bool,
 }
 
 // What an entry came to. Value is a load answered; the last four turn the entry away.
-#[derive(Drop)]
+#[derive(Clone, Copy)]
 pub enum Outcome {
     Taken,
     GoesOn,
@@ -103,7 +105,7 @@ pub enum Outcome {
 }
 
 // What a request asks for.
-#[derive(Drop)]
+#[derive(Clone, Copy)]
 pub enum Request {
     Load,
     Store(bool),
@@ -111,27 +113,27 @@ pub enum Request {
 }
 
 // What an entry asks of its process: a call, or its next step.
-#[derive(Drop)]
+#[derive(Clone, Copy)]
 pub enum Kind {
     Ask(Request),
     Step,
 }
 
-#[derive(Drop)]
+#[derive(Clone, Copy)]
 pub struct Entry {
     pub process: Process,
     pub kind: Kind,
 }
 
 // What a request leaves of a process's row.
-#[derive(Drop)]
+#[derive(Clone, Copy)]
 pub struct Requested {
     pub own: Own,
     pub outcome: Outcome,
 }
 
 // What an entry leaves of X and of its process's row.
-#[derive(Drop)]
+#[derive(Clone, Copy)]
 pub struct Stepped {
     pub x: Triple,
     pub own: Own,
@@ -152,7 +154,7 @@ pub struct Started {
 }
 
 // An outcome as it is printed: its number, and the load's answer if it has one.
-#[derive(Drop)]
+#[derive(Clone, Copy)]
 pub struct Told {
     pub number: u8,
     pub stored: Stored,

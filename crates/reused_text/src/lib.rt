@@ -1,5 +1,7 @@
 // Texts of the machine with reused numbers (document 02, P9, in the form of P1): what a text asks for, and the log of its run. Every public
 // function answers for every input, and its `ensures` gives the answer, and every byte of what is lent, as definitions of specs/.
+#![tactic(auto)]
+
 use reused::Entry;
 
 mod entry;
@@ -19,14 +21,14 @@ pub struct Ran {
 }
 
 // What a further line says: whether it is in the form, and what it asks for.
-#[derive(Drop)]
+#[derive(Clone, Copy)]
 pub struct BitLine {
     pub fine: bool,
     pub entry: Entry,
 }
 
 // What line one says: whether it is in the form, N and M.
-#[derive(Drop)]
+#[derive(Clone, Copy)]
 pub struct Sizes {
     pub fine: bool,
     pub n: usize,
@@ -35,7 +37,7 @@ pub struct Sizes {
 
 // What a text says: the number that refuses it and the line that 25 names, or where its further lines begin, how many entries they ask
 // for, N and M.
-#[derive(Drop)]
+#[derive(Clone, Copy)]
 pub struct Scanned {
     pub number: usize,
     pub line: usize,
@@ -46,7 +48,7 @@ pub struct Scanned {
 }
 
 // The entry that a line asks for, and the place behind its newline.
-#[derive(Drop)]
+#[derive(Clone, Copy)]
 pub struct Next {
     pub entry: Entry,
     pub at: usize,

@@ -1,9 +1,11 @@
 // The log's bytes: a head of twelve, then twelve for each entry. This crate knows nothing of what the numbers mean.
+#![tactic(auto)]
+
 pub mod read;
 pub mod write;
 
 // What the head says: how many entries, how often X has changed, and N.
-#[derive(Drop)]
+#[derive(Clone, Copy)]
 pub struct Head {
     pub entries: u32,
     pub changes: u32,
@@ -11,7 +13,7 @@ pub struct Head {
 }
 
 // What the record of an entry says.
-#[derive(Drop)]
+#[derive(Clone, Copy)]
 pub struct Note {
     pub outcome: u8,
     pub process: u8,
@@ -21,14 +23,14 @@ pub struct Note {
 }
 
 // What reading a head finds: the head, or fewer bytes than it has.
-#[derive(Drop)]
+#[derive(Clone, Copy)]
 pub enum HeadFound {
     Laid(Head),
     NoHead,
 }
 
 // What reading a record finds: the record, or a log that ends before it does.
-#[derive(Drop)]
+#[derive(Clone, Copy)]
 pub enum NoteFound {
     Written(Note),
     NoNote,

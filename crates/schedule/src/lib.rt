@@ -1,5 +1,7 @@
 // The schedule file by document 01: its block check, block 0, the later blocks, their entries, and the file as a whole.
 // Every public function answers for every input, and its `ensures` gives the answer as a definition of specs/.
+#![tactic(auto)]
+
 pub mod block0;
 mod bytes;
 pub mod check;
@@ -12,21 +14,21 @@ pub use file::{block_of, read_file};
 pub use later::{entries_of, entry_at, fields_at, read_block, used_entries};
 
 // What block 0 says: the number that refuses it, with the place of the first stray byte or 0, or N, S and V.
-#[derive(Drop)]
+#[derive(Clone, Copy)]
 pub enum FirstBlock {
     FirstRefused { number: usize, place: usize },
     Start { n: u8, s: u64, v: u64 },
 }
 
 // What a later block says: the number that refuses it, or how many entries it has.
-#[derive(Drop)]
+#[derive(Clone, Copy)]
 pub enum Block {
     BlockRefused(usize),
     Entries(usize),
 }
 
 // What the bytes of an entry say, field by field: its kind byte (1 to 4 in an accepted file), its process, its value.
-#[derive(Drop)]
+#[derive(Clone, Copy)]
 pub struct Fields {
     pub kind: u8,
     pub process: u8,
@@ -35,7 +37,7 @@ pub struct Fields {
 
 // What a whole file says: the number that refuses it with the block where it was found and the place of the first stray byte or 0, or N,
 // S, V and how many entries it has.
-#[derive(Drop)]
+#[derive(Clone, Copy)]
 pub enum Reading {
     Refused {
         number: usize,

@@ -52,6 +52,7 @@ fn ask(last: Sequence, own: Record, request: Request) -> Requested
 }
 
 // The request of a call by the process whose record this is, in a machine whose last usable sequence number is `last`.
+#[tactic(auto, unfolding(crate::specs::Steps::request_of))]
 pub fn request(last: Sequence, own: Record, request: Request) -> Requested
     ensures { result ≡ request_of last own request }
 {
@@ -163,6 +164,7 @@ fn step_at(p: Process, x: Tag, own: Record, row: Row) -> Stepped
 }
 
 // The next step of process p, given X, its own record, and the row that reached_row names.
+#[tactic(auto, unfolding(crate::specs::Steps::step_of))]
 pub fn step(p: Process, x: Tag, own: Record, row: Row) -> Stepped
     ensures { result ≡ step_of p x own row }
 {

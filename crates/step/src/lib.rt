@@ -1,5 +1,7 @@
 // One step of one process over the few parts that it can reach: the word X, the process's own record and one row of
 // registers. All of it goes in by value and comes back by value, so a caller writes back only what the step hands it.
+#![tactic(auto)]
+
 pub mod answer;
 pub mod call;
 mod load;
@@ -10,14 +12,14 @@ mod store;
 use numbers::{Process, Sequence};
 
 // What X holds, and what a process keeps of it: whose store it was, and which of its stores.
-#[derive(Drop)]
+#[derive(Clone, Copy)]
 pub struct Tag {
     pub process: Process,
     pub number: Sequence,
 }
 
 // The registers of one process that every process can read.
-#[derive(Drop)]
+#[derive(Clone, Copy)]
 pub struct Row {
     pub slots: [u64; 2],
     pub old_value: u64,
@@ -25,7 +27,7 @@ pub struct Row {
 }
 
 // Where a process stands in its call: idle, or before the step of that number, with what it still carries.
-#[derive(Drop)]
+#[derive(Clone, Copy)]
 pub enum Place {
     Idle,
     Load1,
@@ -40,7 +42,7 @@ pub enum Place {
 }
 
 // What only its own process reads and writes.
-#[derive(Drop)]
+#[derive(Clone, Copy)]
 pub struct Record {
     pub kept: Tag,
     pub next: Sequence,
@@ -48,7 +50,7 @@ pub struct Record {
 }
 
 // What an entry came to. Value is a load answered, by step 3 or by step 5; the last five turn the entry away.
-#[derive(Drop)]
+#[derive(Clone, Copy)]
 pub enum Outcome {
     Taken,
     GoesOn,
@@ -65,7 +67,7 @@ pub enum Outcome {
 }
 
 // What a request asks for.
-#[derive(Drop)]
+#[derive(Clone, Copy)]
 pub enum Request {
     Load,
     Store(u64),
@@ -73,28 +75,28 @@ pub enum Request {
 }
 
 // What an entry asks of its process: a call, or its next step.
-#[derive(Drop)]
+#[derive(Clone, Copy)]
 pub enum Kind {
     Ask(Request),
     Step,
 }
 
 // One entry, from the file to the machine.
-#[derive(Drop)]
+#[derive(Clone, Copy)]
 pub struct Entry {
     pub process: Process,
     pub kind: Kind,
 }
 
 // What a request leaves of a process's record.
-#[derive(Drop)]
+#[derive(Clone, Copy)]
 pub struct Requested {
     pub own: Record,
     pub outcome: Outcome,
 }
 
 // What a step leaves of the parts that it was given.
-#[derive(Drop)]
+#[derive(Clone, Copy)]
 pub struct Stepped {
     pub x: Tag,
     pub own: Record,
@@ -103,7 +105,7 @@ pub struct Stepped {
 }
 
 // An outcome as the log writes it: its number, and its value if it has one.
-#[derive(Drop)]
+#[derive(Clone, Copy)]
 pub struct Told {
     pub number: u8,
     pub value: u64,

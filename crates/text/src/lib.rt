@@ -1,11 +1,13 @@
 // The text that is printed of a log, written into a part that the caller lends.
+#![tactic(auto)]
+
 pub mod field;
 pub mod line;
 pub mod page;
 mod put;
 
 // How many bytes of whole lines were printed into a lent part, and the place of the first entry whose line was not.
-#[derive(Drop)]
+#[derive(Clone, Copy)]
 pub struct Filled {
     pub bytes: usize,
     pub place: u32,

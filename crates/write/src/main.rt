@@ -1,6 +1,8 @@
 // Writes a schedule file: a text on standard input, the file on standard output. Every byte of the file and of a refusal comes from proved
 // functions on byte slices (writer: the file, text: the line of a refusal); this program only moves bytes. Its output is a file, so a
 // refusal goes to standard error.
+#![tactic(auto)]
+
 use libc::{STDERR_FILENO, STDIN_FILENO, STDOUT_FILENO};
 use writer::write_text;
 
