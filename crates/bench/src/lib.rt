@@ -10,7 +10,7 @@ pub mod whole;
 
 // What a run returns: 0 or what turned the file away, in which block, the place of a stray byte or 0, and the state after the last entry
 // (zeros where the file was turned away).
-#[derive(Drop)]
+#[derive(Clone, Copy)]
 pub struct Ran {
     pub number: usize,
     pub block: usize,
@@ -19,7 +19,7 @@ pub struct Ran {
 }
 
 // A state and how often X has changed on the way to it.
-#[derive(Drop)]
+#[derive(Clone, Copy)]
 pub struct Played {
     pub state: State,
     pub changes: Version,

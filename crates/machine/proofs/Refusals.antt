@@ -44,7 +44,7 @@ request_away s own request = by_idle (idle own.place)
 
 -- A step that is not taken hands back all that it was given.
 step_away : (p : Process) (x : Tag) (own : Record) (row : Row) → turned_away (step_of p x own row).outcome ≡ true
-    → ((step_of p x own row).x ≡ x) × ((step_of p x own row).own_val ≡ own) × ((step_of p x own row).row ≡ row)
+    → ((step_of p x own row).x ≡ x) × ((step_of p x own row).own ≡ own) × ((step_of p x own row).row ≡ row)
 unfolding step_of
 step_away p x own row = either_way Same (leb own.next.0 largest_next) (go own.place) (λ e. (refl, refl, refl))
   where

@@ -10,6 +10,7 @@ use numbers::Process;
 use step::{Kind, Outcome};
 
 // An entry of a process that is there: its record and its row go out, and what it leaves of them comes back.
+#[tactic(auto, unfolding(crate::specs::Entry::entered))]
 fn enter(st: State, p: Process, kind: Kind) -> Answer
     requires { (p.0 < 16) × ((row_given p (record_at st p.0) kind).0 < 16) }
     ensures { result ≡ entered st p kind }
@@ -37,6 +38,7 @@ fn enter(st: State, p: Process, kind: Kind) -> Answer
 }
 
 // A direct call on any state: 15 first, then 11, then what the request or the step itself says.
+#[tactic(auto, unfolding(crate::specs::Entry::called))]
 pub fn call(st: State, p: Process, kind: Kind) -> Answer
     ensures { result ≡ called st p kind }
 {

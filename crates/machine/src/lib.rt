@@ -11,7 +11,7 @@ pub mod parts;
 pub mod sound;
 
 // n processes, s the last usable sequence number; a row of registers and a record for each of the 16 process numbers.
-#[derive(Drop)]
+#[derive(Clone, Copy)]
 pub struct State {
     pub n: usize,
     pub s: Sequence,
@@ -20,20 +20,20 @@ pub struct State {
     pub records: [Record; 16],
 }
 
-#[derive(Drop)]
+#[derive(Clone, Copy)]
 pub struct Answer {
     pub state: State,
     pub outcome: Outcome,
 }
 
 // Whether a start was taken, or turned away because N or S is out of range, and by which number.
-#[derive(Drop)]
+#[derive(Clone, Copy)]
 pub enum Start {
     InRange,
     OutOfRange(usize),
 }
 
-#[derive(Drop)]
+#[derive(Clone, Copy)]
 pub struct Started {
     pub state: State,
     pub start: Start,

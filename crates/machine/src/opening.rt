@@ -75,6 +75,7 @@ pub fn zero_state() -> State
     }
 }
 
+#[tactic(auto, unfolding(crate::specs::State::start_of))]
 pub fn start(n: usize, s: Sequence, v: u64) -> Started
     ensures { result ≡ start_of n s v }
 {

@@ -85,6 +85,7 @@ fn parts_by(s: Sequence, p: Process, x: Tag, own: Record, row: Row, code: u8, va
 }
 
 // An entry of process p as a file asks it, given X, its record and its row.
+#[tactic(auto, unfolding(crate::specs::Parts::played_parts))]
 pub fn play_coded(
     n: usize,
     s: Sequence,

@@ -95,6 +95,7 @@ fn processes_are_sound(st: State) -> bool
     ok
 }
 
+#[tactic(auto, using(numbers::proofs::Range::range_of), unfolding(crate::specs::State::sound))]
 pub fn is_sound(st: State) -> bool
     ensures { result ≡ sound st }
 {
