@@ -1,7 +1,6 @@
 -- The start is sound, and every entry keeps soundness: so no run from a start meets 15.
 use Prim.Native.Nat.{ℕ, zero, suc, ◌+◌, ◌-◌, ◌≤◌, ◌<◌}
 use mathlib.Core.Path.{◌≡◌, refl, sym, ◌∙◌}
-use mathlib.Core.Logic.{◌≢◌}
 use mathlib.Core.Bool.{Bool, true, false, cond, false≢true}
 use mathlib.Core.List.{◌∷◌}
 use native.Mathlib.Omega.{arith}
