@@ -120,9 +120,9 @@ pub every_run : (n m : ℕ) → sizes_number n m ≡ 0 → (es : List Entry) →
 every_run n m fine es =
     record {
       ready = ready_after (first_state n m) es (ready_start n m fine);
-      n-same = (size_kept (first_state n m) es).0;
-      m-same = (size_kept (first_state n m) es).1;
-      never-15 = never_unsound n m fine es;
+      n_same = (size_kept (first_state n m) es).0;
+      m_same = (size_kept (first_state n m) es).1;
+      never_15 = never_unsound n m fine es;
       above_same = above_kept_after (first_state n m) es;
-      refused-same = λ e. refusal_same (after (first_state n m) es) e.process e.kind;
+      refused_same = λ e. refusal_same (after (first_state n m) es) e.process e.kind;
     }

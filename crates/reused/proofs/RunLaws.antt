@@ -30,7 +30,7 @@ pub ready_played : (st : State) (e : Entry) → Ready st → Ready (played st e)
 ready_played st e h =
     record {
       tested = sound_back (played st e).state (sound_kept_lem st e.process e.kind (sure h) h.full);
-      full = untouched.full-kept st e.process e.kind h.full;
+      full = untouched.full_kept st e.process e.kind h.full;
     }
 
 pub ready_after : (st : State) (es : List Entry) → Ready st → Ready (after st es)

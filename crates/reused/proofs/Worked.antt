@@ -30,10 +30,10 @@ runs_worked =
       L = refl;
       least = refl;
       most = refl;
-      no-process = refl;
-      many-processes = refl;
-      small-circle = refl;
-      smallest-circle = refl;
-      large-circle = refl;
+      no_process = refl;
+      many_processes = refl;
+      small_circle = refl;
+      smallest_circle = refl;
+      large_circle = refl;
       both_out = refl;
     }

@@ -1,4 +1,4 @@
--- What holds of every run of the machine from a start, whatever its entries. Proved: `every-run` in proofs/.
+-- What holds of every run of the machine from a start, whatever its entries. Proved: `every_run` in proofs/.
 use Rattle.std.specs.Prelude.{ℕ, ◌≤◌, ◌≡◌, ◌≢◌, true}
 use mathlib.Core.List.{List, Memᴰ}
 use Rattle.reused.specs.Types.{Entry}

@@ -1,5 +1,5 @@
 -- The machine's numbers, read off as one table: what is said of an entry on a state, by its conditions and in their order. Proved:
--- `numbers-in-order` in proofs/ says that this is what a direct call comes to, for every state, process and kind.
+-- `numbers_in_order` in proofs/ says that this is what a direct call comes to, for every state, process and kind.
 use Rattle.std.specs.Prelude.{ℕ, cond, ltb}
 use Rattle.reused.specs.Types.{Process, Triple, Kind, Ask, Step, Own, Place, Idle, Load1, Load2, Load3, Store1, Store2, Check1, Stored, State}
 use Rattle.reused.specs.Steps.{none_stored, stored_of, all_equal, idle}

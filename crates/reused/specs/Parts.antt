@@ -1,4 +1,4 @@
--- An entry over the parts that it can reach, for a run that keeps the state itself: `called-by-parts` in proofs/ says that on a sound
+-- An entry over the parts that it can reach, for a run that keeps the state itself: `called_by_parts` in proofs/ says that on a sound
 -- state it is the entry. By themselves the parts may be anything, so they are tested too.
 use Rattle.std.specs.Prelude.{ℕ, Bool, ◌&&◌, cond, ltb}
 use Rattle.reused.specs.Types.{Process, Triple, Named, Own, Kind, Stepped, NoProcess, Unsound}

@@ -77,6 +77,7 @@ fn take_interval(n: usize, m: u64, own: Own) -> Own
     with_choice(own, s, start, 0)
 }
 
+#[tactic(auto, unfolding(crate::specs::Steps::chosen))]
 pub(crate) fn choose(n: usize, m: u64, p: Process, own: Own, looked: Named) -> Own
     requires { (sound_sizes n m ≡ true) × (sound_row n m own ≡ true) × (sound_named n m looked ≡ true) }
     ensures { result ≡ chosen n m p own looked }

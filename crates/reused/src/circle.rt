@@ -32,6 +32,7 @@ pub(crate) fn m_in_range(n: usize, m: u64) -> bool
 }
 
 // k further on than a.
+#[tactic(auto, unfolding(crate::specs::Circle::ahead))]
 pub(crate) fn go_ahead(m: u64, a: u64, k: u64) -> u64
     requires { (m ≤ 4294967296) × (a < m) × (k < m) }
     ensures { result ≡ ahead m a k }
@@ -41,6 +42,7 @@ pub(crate) fn go_ahead(m: u64, a: u64, k: u64) -> u64
 }
 
 // Whether a is one of the c numbers from b on.
+#[tactic(auto, unfolding(crate::specs::Circle::arc))]
 pub(crate) fn is_in_arc(a: u64, b: u64, c: u64, m: u64) -> bool
     requires { (m ≤ 4294967296) × (a < m) × (b < m) × (c < m) }
     ensures { result ≡ arc a b c m }

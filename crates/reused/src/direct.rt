@@ -10,6 +10,7 @@ use numbers::Process;
 
 // An entry of a process that is there: X, its row and the place of A at its search place go out, and what it leaves of the first two
 // comes back.
+#[tactic(auto, unfolding(crate::specs::Called::entered))]
 fn enter(st: State, p: Process, kind: Kind) -> Answer
     requires { (sound st ≡ true) × (p.0 < st.n) }
     ensures { result ≡ entered st p kind }
@@ -36,6 +37,7 @@ fn enter(st: State, p: Process, kind: Kind) -> Answer
 }
 
 // A direct call on any state: 15 first, then 11, then what the request or the step itself says.
+#[tactic(auto, unfolding(crate::specs::Called::called))]
 pub fn call(st: State, p: Process, kind: Kind) -> Answer
     ensures { result ≡ called st p kind }
 {

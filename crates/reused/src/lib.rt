@@ -73,7 +73,7 @@ pub struct Own {
 }
 
 // n processes, m numbers round the circle; a row for each of the 16 process numbers.
-#[derive(Drop)]
+#[derive(Clone, Copy)]
 pub struct State {
     pub n: usize,
     pub m: u64,
@@ -140,14 +140,14 @@ pub struct Stepped {
     pub outcome: Outcome,
 }
 
-#[derive(Drop)]
+#[derive(Clone, Copy)]
 pub struct Answer {
     pub state: State,
     pub outcome: Outcome,
 }
 
 // A start's state, and 0 or the number that turned it away.
-#[derive(Drop)]
+#[derive(Clone, Copy)]
 pub struct Started {
     pub state: State,
     pub number: usize,

@@ -74,6 +74,7 @@ pub fn zero_state() -> State
     }
 }
 
+#[tactic(auto, unfolding(crate::specs::State::start_of))]
 pub fn start(n: usize, m: u64) -> Started
     ensures { result ≡ start_of n m }
 {

@@ -45,6 +45,7 @@ pub(crate) fn parts_after(
 }
 
 // An entry of process p, given X, its row, and the place of A at its search place.
+#[tactic(auto, unfolding(crate::specs::Parts::played_parts))]
 pub fn play_parts(
     n: usize,
     m: u64,

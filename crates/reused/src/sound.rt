@@ -9,6 +9,7 @@ use crate::{Kept, Named, Own, Place, State, Triple};
 use numbers::{both, n_in_range};
 
 // N and M are in range.
+#[tactic(auto, unfolding(crate::specs::State::sound_sizes))]
 fn sizes_are_sound(n: usize, m: u64) -> bool
     ensures { result ≡ sound_sizes n m }
 {
@@ -99,6 +100,7 @@ fn row_is_sound(n: usize, m: u64, own: Own) -> bool
 }
 
 // The parts that an entry is given.
+#[tactic(auto, unfolding(crate::specs::Parts::sound_parts))]
 pub fn parts_are_sound(n: usize, m: u64, x: Triple, own: Own, looked: Named) -> bool
     ensures { result ≡ sound_parts n m x own looked }
 {
@@ -126,6 +128,7 @@ fn rows_are_sound(st: State) -> bool
     ok
 }
 
+#[tactic(auto, unfolding(crate::specs::State::sound))]
 pub fn is_sound(st: State) -> bool
     ensures { result ≡ sound st }
 {

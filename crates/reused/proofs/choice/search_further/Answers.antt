@@ -1,0 +1,19 @@
+-- The next tag of the running interval, the next interval, and the first search place.
+use Rattle.std.proofs.Common.{arith}
+use Rattle.reused.proofs.Soundness.{sizes_of_lem, row_of, circle_some, interval_below}
+use Rattle.reused.proofs.choice.search_further.Goals as goal
+
+pub interval_of-d-requires : goal.interval_of-d-requires
+interval_of-d-requires c = (sizes_of_lem c.args.n c.args.m c.requires.0).few
+
+pub go_ahead-tag-requires : goal.go_ahead-tag-requires
+go_ahead-tag-requires c =
+    let a = c.args in
+    let h = sizes_of_lem a.n a.m c.requires.0 in
+    (h.high, (row_of a.n a.m a.own c.requires.1).tag, omega (arith, circle_some h))
+
+pub go_ahead-start-requires : goal.go_ahead-start-requires
+go_ahead-start-requires c =
+    let a = c.args in
+    let h = sizes_of_lem a.n a.m c.requires.0 in
+    (h.high, (row_of a.n a.m a.own c.requires.1).start, rw c.interval_of-d.ensures (interval_below h))
