@@ -6,7 +6,7 @@ use Rattle.schedule.specs.WorkedFile.{worked_file, worked_entries, FullRun, firs
 
 pub full_run : FullRun
 unfolding zeros_of check_of first_number meant later_number block_entries entries_to in_turn reading worked_file worked_entries
-full_run = record { first-check = refl; later-check = refl; accepted = refl; entries = refl; one_byte_off = refl }
+full_run = record { first_check = refl; later_check = refl; accepted = refl; entries = refl; one_byte_off = refl }
 
 -- and the files with a bad block 0
 pub first_files : FirstFiles
@@ -14,12 +14,12 @@ unfolding zeros_of check_of first_number stray_of entries_to in_turn reading fir
 first_files =
     record {
       all = refl;
-      fine-check = refl;
-      fine-place = refl;
-      fine-n = refl;
-      fine-s = refl;
-      fine-count = refl;
-      fine-3 = refl;
-      fine-18 = refl;
+      fine_check = refl;
+      fine_place = refl;
+      fine_n = refl;
+      fine_s = refl;
+      fine_count = refl;
+      fine_3 = refl;
+      fine_18 = refl;
       fine = refl;
     }

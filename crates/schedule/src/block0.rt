@@ -37,6 +37,7 @@ fn first_rest(b: &[u8], after: usize) -> usize
 }
 
 // The number that refuses block 0, or 0.
+#[tactic(auto, unfolding(crate::specs::File::first_number))]
 pub(crate) fn first_number(b: &[u8], after: usize) -> usize
     requires { length b.now ≡ 512 }
     ensures { result ≡ first_number b.now after }
@@ -69,6 +70,7 @@ pub(crate) fn place_with(number: usize, b: &[u8]) -> usize
 }
 
 // Block 0 of a file with `after` blocks behind it.
+#[tactic(auto, unfolding(crate::specs::Direct::first_of))]
 pub fn read_first(b: &[u8], after: usize) -> FirstBlock
     ensures { result ≡ first_of b.now after }
 {

@@ -38,6 +38,7 @@ pub(crate) fn eight(b: &[u8], at: usize) -> u64
 
 // Whether the `n` bytes from place `at` on are zero. They are added up, with no way out of the loop before its end, so that
 // the compiler can take many bytes at once.
+#[tactic(auto, using(crate::proofs::Laws::eqb_sum), unfolding(crate::specs::File::zeros_of))]
 pub(crate) fn clear(b: &[u8], at: usize, n: usize) -> bool
     requires { (at + n ≤ length b.now) × (n ≤ 512) }
     ensures { result ≡ zeros_of b.now at n }
@@ -54,6 +55,7 @@ pub(crate) fn clear(b: &[u8], at: usize, n: usize) -> bool
 }
 
 // The place of the first of the `n` bytes from place `at` on that is not zero, or 0.
+#[tactic(auto, unfolding(crate::specs::File::stray_of))]
 pub(crate) fn stray(b: &[u8], at: usize, n: usize) -> usize
     requires { (at + n ≤ length b.now) × (n ≤ 512) }
     ensures { result ≡ stray_of b.now at n }

@@ -7,6 +7,7 @@ use numbers::{first_found, number_unless, wide};
 
 // The sum over the first `end` places of (i + 1) times byte i, with nothing taken off on the way: for 510 places it stays
 // below 2^32.
+#[tactic(auto, using(crate::proofs::Laws::weight_bound))]
 fn weigh(b: &[u8], end: usize) -> u32
     requires { (end ≤ length b.now) × (end ≤ 510) }
     ensures { result ≡ weighed b.now end }
@@ -67,6 +68,7 @@ fn weigh_halves(b: &[u8]) -> u32
 }
 
 // The check of a block. Where the slice is shorter than 510 bytes, the places that it lacks add nothing.
+#[tactic(auto, unfolding(crate::specs::File::check_of))]
 pub fn check_of(b: &[u8]) -> u32
     ensures { result ≡ check_of b.now }
 {

@@ -37,6 +37,7 @@ fn length_fine(n: usize) -> bool
 }
 
 // The later blocks in turn, of which there are `after`; n, s and v are block 0's. Each byte is summed once.
+#[tactic(auto, unfolding(crate::specs::File::in_turn))]
 fn read_later(file: &[u8], after: usize, n: u8, s: u64, v: u64) -> Reading
     requires { (length file.now ≡ 512 * (after + 1)) × (after < 128) }
     ensures { result ≡ in_turn file.now 1 after (Reading.Accepted n s v (length (entries_to file.now after))) }
@@ -67,6 +68,7 @@ fn read_later(file: &[u8], after: usize, n: u8, s: u64, v: u64) -> Reading
 }
 
 // A whole file.
+#[tactic(auto, unfolding(crate::specs::File::reading))]
 pub fn read_file(file: &[u8]) -> Reading
     ensures { result ≡ reading file.now }
 {

@@ -62,6 +62,7 @@ fn later_fine(b: &[u8]) -> bool
 }
 
 // The number that refuses block k, or 0.
+#[tactic(auto, unfolding(crate::specs::File::later_number))]
 pub(crate) fn later_number(b: &[u8], k: usize) -> usize
     requires { length b.now ≡ 512 }
     ensures { result ≡ later_number b.now k }
@@ -72,6 +73,7 @@ pub(crate) fn later_number(b: &[u8], k: usize) -> usize
 }
 
 // Block k, where k is not 0.
+#[tactic(auto, unfolding(crate::specs::Direct::later_of))]
 pub fn read_block(b: &[u8], k: usize) -> Block
     ensures { result ≡ later_of b.now k }
 {
@@ -89,6 +91,7 @@ pub fn read_block(b: &[u8], k: usize) -> Block
 
 // The part of a block with the entries that its count speaks of. No test is made of them: this is for a block that is known
 // to be accepted, and costs nothing there.
+#[tactic(auto, unfolding(crate::specs::Direct::used_part))]
 pub fn used_entries(b: &[u8]) -> &[u8]
     ensures { result.now ≡ used_part b.now }
 {
@@ -105,6 +108,7 @@ pub fn used_entries(b: &[u8]) -> &[u8]
 }
 
 // The part of block k with its entries, where k is not 0: of a refused block an empty part.
+#[tactic(auto, unfolding(crate::specs::Direct::accepted_part))]
 pub fn entries_of(b: &[u8], k: usize) -> &[u8]
     ensures { result.now ≡ accepted_part b.now k }
 {
@@ -132,6 +136,7 @@ fn no_entry() -> Entry
 }
 
 // What an entry's twelve bytes ask.
+#[tactic(auto, unfolding(crate::specs::File::meant))]
 fn meaning(e: &[u8]) -> Entry
     requires { length e.now ≡ 12 }
     ensures { (result ≡ meant e.now) × (result.process.0 < 256) }
@@ -175,6 +180,7 @@ fn meaning(e: &[u8]) -> Entry
 }
 
 // Entry j of a part that holds entries.
+#[tactic(auto, unfolding(crate::specs::Direct::entry_at))]
 pub fn entry_at(part: &[u8], j: usize) -> Entry
     ensures { (result ≡ entry_at part.now j) × (result.process.0 < 256) }
 {
@@ -216,6 +222,7 @@ fn fields(e: &[u8]) -> Fields
 }
 
 // The fields of entry j of a part that holds entries.
+#[tactic(auto, unfolding(crate::specs::Direct::fields_at))]
 pub fn fields_at(part: &[u8], j: usize) -> Fields
     ensures { result ≡ fields_at part.now j }
 {
