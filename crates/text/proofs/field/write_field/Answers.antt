@@ -1,0 +1,17 @@
+-- The number's digits and one byte behind them, where they fit.
+use Rattle.std.proofs.Common.{arith, [], ◌∷◌, ◌+◌, ◌-◌, ◌≤◌, ◌<◌, length, sym, ◌∙◌, length-append}
+use Rattle.std.proofs.lemmas.Bool.{ltb-true}
+use Rattle.text.specs.Decimal.{decimal_of}
+use Rattle.text.specs.Lines.{field}
+use Rattle.text.proofs.Pieces.{piece, put_more, stored_fits}
+use Rattle.text.proofs.field.write_field.Goals as goal
+
+pub returns-then-fits : goal.returns-then-fits
+returns-then-fits c =
+    let a = c.args in
+    let room : length (decimal_of a.n) < length a.out.now - a.at =
+    ltb-true (length (decimal_of a.n)) (length a.out.now - a.at) (sym c.has_room-fits.ensures ∙ c.if-fits.true) in
+    let fits : a.at + length (field a.n a.end) ≤ length a.out.now =
+    rw (length-append (decimal_of a.n) (a.end ∷ [])) (omega arith) in
+    stored_fits fits
+    (put_more (piece (decimal_of a.n) _ _ c.put_number-next.ensures) (piece (a.end ∷ []) _ _ c.put_byte.ensures))
