@@ -1,13 +1,13 @@
 -- The joining: each entry carries the relation on. What an entry decides goes into the order by one of the three ways of
 -- word/proofs/Good.antt. Assumes nothing.
-use Prim.Native.Nat.{ℕ, suc, ◌+◌, ◌≤◌, ◌<◌}
+use Prim.Native.Nat.{ℕ, suc, ◌≤◌, ◌<◌}
 use mathlib.Core.Path.{◌≡◌, refl, sym, ap, ◌∙◌, subst, subst₂}
 use mathlib.Core.Bool.{Bool, true, false, cond, false≢true}
 use mathlib.Core.Option.{none}
 use mathlib.Core.Logic.{◌≢◌}
 use mathlib.Core.List.{List, [], ◌∷◌, ◌++◌}
 use native.Mathlib.Omega.{arith}
-use Rattle.word.specs.Word.{Link, at, Op, load, store, check, Answer, value, done, not_done, put, linked, answer_of, first, Call, words_after}
+use Rattle.word.specs.Word.{Link, at, Op, load, store, Answer, value, done, not_done, put, linked, answer_of, first, Call, words_after}
 use Rattle.word.specs.Calls.{asks, away, Calls, call_by, go_on}
 use Rattle.word.proofs.Put.{split, put_same, put_other}
 use Rattle.word.proofs.Changes.{wrote, total_quiet, total_snoc, value_snoc, value_new, writes_own, writes_nothing}

@@ -92,8 +92,9 @@ steady_entry {st} {safe} steady e =
 
 pub steady_after : {st : State} {safe : ℕ → Safe} → Steady st safe → (es : List Entry) → Steady (after st es) (safe_after st safe es)
 unfolding after safe_after
-steady_after steady [] = steady
-steady_after steady (e ∷ es) = steady_after (steady_entry steady e) es
+steady_after {st = st} {safe = safe} steady [] = steady
+steady_after {st = st} {safe = safe} steady (e ∷ es) =
+    steady_after {st = (played st e).state} {safe = safe_on st e safe} (steady_entry steady e) es
 
 pub steady_start : (n m : ℕ) → sizes_number n m ≡ 0 → Steady (first_state n m) first_safe
 steady_start n m e =
