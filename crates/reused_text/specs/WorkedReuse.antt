@@ -10,8 +10,8 @@ use Rattle.reused_text.specs.Played.{ran_not, ran_of, reuse_text}
 abbrev pub typed_reuse : List ℕ
 typed_reuse =
     bytes_in "H 2 60\n"
-    ++ (bytes_in "L 1\n_t 1\n_t 1\n_t 1\n"
-    ++ (bytes_in "S 1 0\n_t 1\n_t 1\n" ++ (bytes_in "L 0\n_t 0\n_t 0\n_t 0\n" ++ (bytes_in "V 1\n_t 1\n" ++ bytes_in "T 2\n_t 1\n_s 0 0\n_l 0\n"))))
+    ++ (bytes_in "L 1\nT 1\nT 1\nT 1\n"
+    ++ (bytes_in "S 1 0\nT 1\nT 1\n" ++ (bytes_in "L 0\nT 0\nT 0\nT 0\n" ++ (bytes_in "V 1\nT 1\n" ++ bytes_in "T 2\nT 1\nS 0 0\nL 0\n"))))
 
 abbrev pub printed_reuse : List ℕ
 printed_reuse =
@@ -30,20 +30,20 @@ pub record ReuseRun : Type 0 where
   pub printed : reuse_text typed_reuse ≡ printed_reuse
   -- "refused 25 line K"; "line 1 for empty input"; a bit of 2; four numbers in line one; a last line without its newline
   pub none : ran_of [] [] ≡ ran_not 25 1
-  pub no_bit : reuse_text (bytes_in "H 2 60\n_l 1\n_s 1 2\n") ≡ bytes_in "refused 25 line 3\n"
+  pub no_bit : reuse_text (bytes_in "H 2 60\nL 1\nS 1 2\n") ≡ bytes_in "refused 25 line 3\n"
   pub longer : outside (bytes_in "H 2 60 7\n") ≡ 1
-  pub unended : outside (bytes_in "H 2 60\n_l 1\n_t 1") ≡ 3
+  pub unended : outside (bytes_in "H 2 60\nL 1\nT 1") ≡ 3
   -- 25 before 16, 16 before 24, however many digits they have; and then 27
-  pub form_first : text_number (bytes_in "H 0 60\n_s 1\n") ≡ 25
-  pub both : reuse_text (bytes_in "H 17 1\n_l 1\n") ≡ bytes_in "refused 16\n"
+  pub form_first : text_number (bytes_in "H 0 60\nS 1\n") ≡ 25
+  pub both : reuse_text (bytes_in "H 17 1\nL 1\n") ≡ bytes_in "refused 16\n"
   pub long_n : text_number (bytes_in "H 18446744073709551618 60\n") ≡ 16
   pub long_m : reuse_text (bytes_in "H 2 100000000000000000000060\n") ≡ bytes_in "refused 24\n"
-  pub short : ran_of (bytes_in "H 2 60\n_l 1\n") (replicate 23 1) ≡ ran_not 27 0
-  pub just : ran_of (bytes_in "H 2 60\n_l 1\n") (replicate 24 1) ≡ record { number = 0; line = 0; entries = 1 }
+  pub short : ran_of (bytes_in "H 2 60\nL 1\n") (replicate 23 1) ≡ ran_not 27 0
+  pub just : ran_of (bytes_in "H 2 60\nL 1\n") (replicate 24 1) ≡ record { number = 0; line = 0; entries = 1 }
   -- beside each edge: processes, bits, zeros, N, and M at both ends
-  pub processes : Beside "H 2 60\n_t 255\n" 0 "H 2 60\n_t 256\n" 25
-  pub bits : Beside "H 2 60\n_s 1 1\n" 0 "H 2 60\n_s 1 01\n" 25
-  pub zeros : Beside "H 2 60\n_s 0 0\n" 0 "H 2 060\n" 25
+  pub processes : Beside "H 2 60\nT 255\n" 0 "H 2 60\nT 256\n" 25
+  pub bits : Beside "H 2 60\nS 1 1\n" 0 "H 2 60\nS 1 01\n" 25
+  pub zeros : Beside "H 2 60\nS 0 0\n" 0 "H 2 060\n" 25
   pub few_n : Beside "H 1 12\n" 0 "H 0 12\n" 16
   pub many_n : Beside "H 16 17952\n" 0 "H 17 21420\n" 16
   pub low_m : Beside "H 2 60\n" 0 "H 2 59\n" 24
