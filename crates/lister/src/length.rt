@@ -9,6 +9,7 @@ use step::{Entry, Kind, Request};
 use text::field::count_digits;
 
 // A letter, a space, a number and a newline.
+#[tactic(auto, using(text::proofs::Digits::decimal_length, crate::proofs::Sizes::plain_size))]
 fn plain_length(p: u64) -> usize
     ensures { result ≡ length (kind_line Kind.Step p) }
 {
@@ -17,6 +18,7 @@ fn plain_length(p: u64) -> usize
 }
 
 // The line of a request: a store has a number more.
+#[tactic(auto, using(text::proofs::Digits::decimal_length, crate::proofs::Sizes::plain_size, crate::proofs::Sizes::store_size))]
 fn request_length(p: u64, request: Request) -> usize
     ensures { result ≡ length (kind_line (Kind.Ask request) p) }
 {
@@ -32,6 +34,7 @@ fn request_length(p: u64, request: Request) -> usize
 }
 
 // How long an entry's line is.
+#[tactic(auto, unfolding(writer::specs::Made::entry_line))]
 fn line_length(entry: Entry) -> usize
     requires { entry.process.0 < 256 }
     ensures { result ≡ length (entry_line entry) }
@@ -45,6 +48,7 @@ fn line_length(entry: Entry) -> usize
 }
 
 // `H N S V`.
+#[tactic(auto, using(text::proofs::Digits::decimal_length, crate::proofs::Sizes::start_size))]
 pub(crate) fn start_length(n: u8, s: u64, v: u64) -> usize
     ensures { result ≡ length (start_line n s v) }
 {

@@ -36,6 +36,7 @@ fn list_accepted(file: &[u8], out: &mut [u8], n: u8, s: u64, v: u64, entries: us
 }
 
 // A file and a lent output: what turned it away, or how long the text is that was written.
+#[tactic(auto, unfolding(crate::specs::Lister::listed_of, crate::specs::Lister::listed_in))]
 pub fn list_file(file: &[u8], out: &mut [u8]) -> Listed
     ensures { (result ≡ listed_of file.now out.old) × (out.new ≡ listed_in file.now out.old) }
 {

@@ -53,6 +53,7 @@ fn put_request(out: &mut [u8], at: usize, p: u64, request: Request) -> usize
 }
 
 // The line of an entry.
+#[tactic(auto, unfolding(writer::specs::Made::entry_line))]
 fn put_entry(out: &mut [u8], at: usize, entry: Entry) -> usize
     requires { (at + length (entry_line entry) ≤ length out.old) × (entry.process.0 < 256) }
     ensures { (result ≡ at + length (entry_line entry)) × (out.new ≡ sets out.old at (entry_line entry)) }
