@@ -1,4 +1,4 @@
-use Rattle.std.proofs.Common.{◌≡◌, ℕ, List, ◌+◌, ◌≤◌, length, refl, ap, ◌∙◌, arith, length-append}
+use Rattle.std.proofs.Common.{◌≡◌, ℕ, ◌+◌, length, refl, ap, ◌∙◌, arith, length-append}
 use Rattle.schedule.specs.File.{block_at, blocks_after, entries_to}
 use Rattle.schedule.specs.Direct.{used_part}
 use Rattle.schedule.proofs.Accepted.{accepted_length}
@@ -35,7 +35,7 @@ loop-done-preserved c =
       within = omega arith;
       bounded = omega (arith, c.part_length-more.ensures.1, c.loop-done.invariant.bounded);
       lines =
-        rw (block_lines f c.requires done c.loop-done-test.true, length-append, c.loop-done.invariant.lines, c.part_length-more.ensures.0, part);
+          rw (block_lines f c.requires done c.loop-done-test.true, length-append, c.loop-done.invariant.lines, c.part_length-more.ensures.0, part);
     }
 
 pub returns : goal.returns

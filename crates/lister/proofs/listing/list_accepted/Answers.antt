@@ -13,9 +13,9 @@ use Rattle.lister.proofs.listing.list_accepted.Goals as goal
 pub overflow_add-need : goal.overflow_add-need
 overflow_add-need c = omega (arith, c.entries_length-lines.ensures.1, c.start_length-first.ensures, start_most c.args.n c.args.s c.args.v)
 
-pub returns-then-len-need : goal.returns-then-len-need
+pub returns-then-out-need : goal.returns-then-out-need
 unfolding text_made
-returns-then-len-need c =
+returns-then-out-need c =
     let a = c.args in
     let text = listing a.file.now a.n a.s a.v in
     let size : length text ≡ c.start_length-first.result + c.entries_length-lines.result =

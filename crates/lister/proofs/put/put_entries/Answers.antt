@@ -1,10 +1,10 @@
-use Rattle.std.proofs.Common.{◌≡◌, ℕ, List, ◌+◌, ◌/◌, ◌≤◌, ◌++◌, length, refl, sym, ap, ◌∙◌, arith, length-append}
+use Rattle.std.proofs.Common.{◌≡◌, ℕ, ◌+◌, ◌/◌, ◌++◌, length, refl, sym, ap, ◌∙◌, arith, length-append}
 use Rattle.std.proofs.Math.Nat.{add-zero}
 use Rattle.std.proofs.Math.Seq.{sets}
-use Rattle.schedule.specs.File.{block_at, blocks_after, entries_to}
+use Rattle.schedule.specs.File.{blocks_after, entries_to}
 use Rattle.schedule.specs.Direct.{used_part, part_entries}
 use Rattle.schedule.proofs.Accepted.{accepted_length}
-use Rattle.text.proofs.Pieces.{Put, piece, put_more, put_length}
+use Rattle.text.proofs.Pieces.{piece, put_more, put_length}
 use Rattle.writer.specs.Made.{entry_lines}
 use Rattle.lister.proofs.Sizes.{block_lines, file_grows}
 use Rattle.lister.proofs.put.put_entries.Goals as goal

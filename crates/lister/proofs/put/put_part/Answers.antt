@@ -1,4 +1,4 @@
-use Rattle.std.proofs.Common.{◌≡◌, ◌+◌, ◌/◌, ◌≤◌, length, refl, sym, arith, length-append}
+use Rattle.std.proofs.Common.{◌≡◌, ◌+◌, ◌/◌, length, refl, sym, arith, length-append}
 use Rattle.std.proofs.Math.Nat.{add-zero}
 use Rattle.schedule.specs.Direct.{part_entries}
 use Rattle.text.proofs.Pieces.{Put, piece, pieces, put_more, put_length}
