@@ -65,6 +65,7 @@ fn run_accepted(file: &[u8], log: &mut [u8], n: u8, s: u64, v: u64, entries: usi
 }
 
 // A file and a lent log: what the run returns, with the state that it ends in.
+#[tactic(auto, unfolding(crate::specs::Bench::ran_of, crate::specs::Bench::log_after))]
 pub fn run(file: &[u8], log: &mut [u8]) -> Ran
     ensures { (result ≡ ran_of file.now log.old) × (log.new ≡ log_after file.now log.old) }
 {
