@@ -130,49 +130,49 @@ module _ {st : State} (c : Calls ℕ) (known : KnownIn st c) (ready : Ready st) 
     cases : Cases Gone st p.0
     cases =
         record {
-          asks-load = λ e st' x m. (staged m (known_asks known step_of_store p.0 l 0 load loads refl), record { process = refl; steps = refl; value = refl; allowed = (l, opened_by e) }, refl);
-          asks-store = λ u e st' x m. (staged m (known_asks known step_of_store p.0 l 0 (store u) stores refl), record { process = refl; steps = refl; value = refl; allowed = (l, opened_by e) }, refl);
-          asks-check = λ e st' x m. (staged m (known_asks known step_of_store p.0 l 0 check checks refl), record { process = refl; steps = refl; value = refl; allowed = (l, opened_by e) }, refl);
-          step-1 = λ e st' x m.
+          asks_load = λ e st' x m. (staged m (known_asks known step_of_store p.0 l 0 load loads refl), record { process = refl; steps = refl; value = refl; allowed = (l, opened_by e) }, refl);
+          asks_store = λ u e st' x m. (staged m (known_asks known step_of_store p.0 l 0 (store u) stores refl), record { process = refl; steps = refl; value = refl; allowed = (l, opened_by e) }, refl);
+          asks_check = λ e st' x m. (staged m (known_asks known step_of_store p.0 l 0 check checks refl), record { process = refl; steps = refl; value = refl; allowed = (l, opened_by e) }, refl);
+          step_1 = λ e st' x m.
               let (o, asked, own) = call_at st known p.0 l e in
               let quiet = decides_at step_of_store c p.0 1 false (ap is_store asked) o.counted in
               goes_on_lem st' e m (known_goes known step_of_store p.0 l (ap stage_of e) quiet) quiet refl o.counted (may_load asked o.counted (omega arith));
-          step-2 = λ e st' x m.
+          step_2 = λ e st' x m.
               let (o, asked, own) = call_at st known p.0 l e in
               let quiet = decides_at step_of_store c p.0 2 false (ap is_store asked) o.counted in
               goes_on_lem st' e m (known_goes known step_of_store p.0 l (ap stage_of e) quiet) quiet refl o.counted (may_load asked o.counted (omega arith));
-          step-3-answers = λ v e near st' x m.
+          step_3_answers = λ v e near st' x m.
               let (o, asked, own) = call_at st known p.0 l e in
               (staged m (known_answers known step_of_store p.0 l (value v) refl (ap stage_of e)), record { process = refl; steps = rank_of e o.counted; value = refl; allowed = (l, opened_by e, (asked, inl o.counted)) }, refl);
-          step-3-goes-on = λ v e far st' x m.
+          step_3_goes_on = λ v e far st' x m.
               let (o, asked, own) = call_at st known p.0 l e in
               let quiet = decides_at step_of_store c p.0 3 false (ap is_store asked) o.counted in
               goes_on_lem st' e m (known_goes known step_of_store p.0 l (ap stage_of e) quiet) quiet refl o.counted (may_load asked o.counted (omega arith));
-          step-5 = λ e st' x m.
+          step_5 = λ e st' x m.
               let (o, asked, own) = call_at st known p.0 l e in
               (staged m (known_answers known step_of_store p.0 l (value _) refl (ap stage_of e)), record { process = refl; steps = rank_of e o.counted; value = refl; allowed = (l, opened_by e, (asked, inr o.counted)) }, refl);
-          step-7 = λ v e st' x m.
+          step_7 = λ v e st' x m.
               let (o, asked, own) = call_at st known p.0 l e in
               let quiet = decides_at step_of_store c p.0 1 true asked o.counted in
               goes_on_lem st' e m (known_goes known step_of_store p.0 l (ap stage_of e) quiet) quiet refl o.counted (may_store asked o.counted (omega arith));
-          step-8-done = λ e same st' x m.
+          step_8_done = λ e same st' x m.
               let (o, asked, own) = call_at st known p.0 l e in
               let decides-it = decides_at step_of_store c p.0 2 true asked o.counted in
               goes_on_lem st' e m (known_done known step_of_store p.0 l (ap stage_of e) decides-it) decides-it refl o.counted (may_store asked o.counted (omega arith));
-          step-8-not-done = λ e other st' x m.
+          step_8_not_done = λ e other st' x m.
               let (o, asked, own) = call_at st known p.0 l e in
               (staged m (known_answers known step_of_store p.0 l not_done refl (ap stage_of e)), record { process = refl; steps = rank_of e o.counted; value = refl; allowed = (l, opened_by e, (asked, o.counted)) }, refl);
-          step-9 = λ e st' x m.
+          step_9 = λ e st' x m.
               let (o, asked, played) = call_at st known p.0 l e in
               let quiet = decides_at step_of_store c p.0 3 true asked o.counted in
               goes_on_lem st' e m (known_stored known step_of_store p.0 l (ap stage_of e) quiet) quiet refl o.counted (may_store asked o.counted (omega arith));
-          step-10 = λ e st' x m.
+          step_10 = λ e st' x m.
               let (o, asked, played) = call_at st known p.0 l e in
               (staged m (known_answered known step_of_store p.0 l (ap stage_of e)), record { process = refl; steps = rank_of e o.counted; value = refl; allowed = (l, opened_by e, (asked, o.counted)) }, refl);
-          step-14-yes = λ e same st' x m.
+          step_14_yes = λ e same st' x m.
               let (o, asked, own) = call_at st known p.0 l e in
               (staged m (known_answers known step_of_store p.0 l says_yes refl (ap stage_of e)), record { process = refl; steps = rank_of e o.counted; value = refl; allowed = (l, opened_by e, (asked, o.counted)) }, refl);
-          step-14-no = λ e other st' x m.
+          step_14_no = λ e other st' x m.
               let (o, asked, own) = call_at st known p.0 l e in
               (staged m (known_answers known step_of_store p.0 l says_no refl (ap stage_of e)), record { process = refl; steps = rank_of e o.counted; value = refl; allowed = (l, opened_by e, (asked, o.counted)) }, refl);
         }

@@ -189,7 +189,7 @@ module _ {v : ℕ} {st : State} (c : Calls ℕ) (m : Word ℕ) (simulated : Simu
     cases : Cases Next st p.0
     cases =
         record {
-          asks-load = λ e st' x mv. (
+          asks_load = λ e st' x mv. (
             record {
               sim =
                   sim_request s p.0 l load mv (kept_calm (view_of st) p.0 s.inv l Idle Load1 e refl refl mv x tt)
@@ -198,7 +198,7 @@ module _ {v : ℕ} {st : State} (c : Calls ℕ) (m : Word ℕ) (simulated : Simu
             },
             record { mark = refl; by_step5 = λ two. absurd (omega (arith, two)); says = tt },
           );
-          asks-store = λ u e st' x mv. (
+          asks_store = λ u e st' x mv. (
             record {
               sim =
                   sim_request s p.0 l (store u) mv (kept_calm (view_of st) p.0 s.inv l Idle (Store7 u) e refl refl mv x tt)
@@ -207,7 +207,7 @@ module _ {v : ℕ} {st : State} (c : Calls ℕ) (m : Word ℕ) (simulated : Simu
             },
             record { mark = refl; by_step5 = λ two. absurd (omega (arith, two)); says = tt },
           );
-          asks-check = λ e st' x mv. (
+          asks_check = λ e st' x mv. (
             record {
               sim =
                   sim_request s p.0 l check mv (kept_calm (view_of st) p.0 s.inv l Idle Check14 e refl refl mv x tt)
@@ -216,7 +216,7 @@ module _ {v : ℕ} {st : State} (c : Calls ℕ) (m : Word ℕ) (simulated : Simu
             },
             record { mark = refl; by_step5 = λ two. absurd (omega (arith, two)); says = tt },
           );
-          step-1 = λ e st' x mv.
+          step_1 = λ e st' x mv.
               let (o, asked, rest) = call_at st known p.0 l e in
               let quiet = decides_at step_of_store c p.0 1 false (ap is_store asked) o.counted in
               let begins = ap (λ (j : Op ℕ). is_load j && eqb (c.steps p.0) 0) asked ∙ ap (λ (j : ℕ). eqb j 0) (none_yet o.counted) in
@@ -225,12 +225,12 @@ module _ {v : ℕ} {st : State} (c : Calls ℕ) (m : Word ℕ) (simulated : Simu
               (sim_quiet s p.0 l (word.at (total 0 s.order)) mv (kept_1 (view_of st) p.0 s.inv l e mv x)
               (record { link = tt; call = (undecided_on alone (side_at s p.0 l e).call, first_seen) })))
               (λ t. absurd (false≢true t));
-          step-2 = λ e st' x mv.
+          step_2 = λ e st' x mv.
               let (o, asked, rest) = call_at st known p.0 l e in
               load_goes 0 asked o.counted
               (sim_still s p.0 l mv (kept_2 (view_of st) p.0 s.inv l (tag_below st p.0 ready l) e mv x)
               (record { link = tt; call = loading_on alone (side_at s p.0 l e).call }));
-          step-3-answers = λ u e near st' x mv.
+          step_3_answers = λ u e near st' x mv.
               let (i, sn, f) = (one_at (view_of st) p.0 s.inv l e).stage in
               let a = f (guard_low (row_at st (record_at st p.0).kept.process.0).old_number (record_at st p.0).kept.number.0 near) in (
                 record {
@@ -245,13 +245,13 @@ module _ {v : ℕ} {st : State} (c : Calls ℕ) (m : Word ℕ) (simulated : Simu
                 load_reads st' u x (ap (λ (o : Record). o.kept) mv.own)
                     (λ four. absurd (omega (arith, four, ap own_steps e))) (newest_value i u sn (s.vals i _ _ u a)),
               );
-          step-3-goes-on = λ u e far st' x mv.
+          step_3_goes_on = λ u e far st' x mv.
               let (o, asked, rest) = call_at st known p.0 l e in
               load_goes 1 asked o.counted
               (sim_still s p.0 l mv
               (kept_3 (view_of st) p.0 s.inv l u st.s.0 (tag_below st p.0 ready l) ((sure ready).each (record_at st p.0).kept.process.0 (tag_below st p.0 ready l)).old e far mv x)
               (record { link = tt; call = loading_on alone (side_at s p.0 l e).call }));
-          step-5 = λ e st' x mv.
+          step_5 = λ e st' x mv.
               let (i, sn, high) = (one_at (view_of st) p.0 s.inv l e).stage in
               let (u, a) = seen_at (view_of st) p.0 s.inv l i sn in
               let (n, le, lt, j, b) = old_place s.inv i (record_at st p.0).kept.process.0 (record_at st p.0).kept.number.0 u (tag_below st p.0 ready l) a high in (
@@ -266,7 +266,7 @@ module _ {v : ℕ} {st : State} (c : Calls ℕ) (m : Word ℕ) (simulated : Simu
                 },
                 load_reads st' _ x (ap (λ (o : Record). o.kept) mv.own) (λ four. behind e) (λ t. absurd (false≢true (sym (tested (behind e)) ∙ t))),
               );
-          step-7 = λ u e st' x mv.
+          step_7 = λ u e st' x mv.
               let (o, asked, rest) = call_at st known p.0 l e in
               let und = undecided_on alone (side_at s p.0 l e).call in
               store_goes 1 refl asked o.counted
@@ -275,7 +275,7 @@ module _ {v : ℕ} {st : State} (c : Calls ℕ) (m : Word ℕ) (simulated : Simu
                 link = (side_at s p.0 l e).link;
                 call = record { kind = und.kind ∙ ap store (sym (written u)); before = und.before; own = und.own };
               }));
-          step-8-done = λ e same st' x mv.
+          step_8_done = λ e same st' x mv.
               let (o, asked, rest) = call_at st known p.0 l e in
               let decided = decides_at step_of_store c p.0 2 true asked o.counted in
               let no-load = ap (λ (b : Bool). b && eqb (c.steps p.0) 0) (store_no_load (c.op p.0) asked) in
@@ -285,7 +285,7 @@ module _ {v : ℕ} {st : State} (c : Calls ℕ) (m : Word ℕ) (simulated : Simu
               (on_own_word (c.op p.0) done
               (sim_done s p.0 l refl mv (kept_8 (view_of st) p.0 s.inv l e x mv) (side_at s p.0 l e).call (side_at s p.0 l e).link same))
               (λ t. tested same);
-          step-8-not-done = λ e other st' x mv. (
+          step_8_not_done = λ e other st' x mv. (
             record {
               sim =
                   on_own_word (c.op p.0) not_done
@@ -296,18 +296,18 @@ module _ {v : ℕ} {st : State} (c : Calls ℕ) (m : Word ℕ) (simulated : Simu
             },
             record { mark = refl; by_step5 = λ two. absurd (omega (arith, two)); says = tested other },
           );
-          step-9 = λ e st' x mv.
+          step_9 = λ e st' x mv.
               let (o, asked, rest) = call_at st known p.0 l e in
               store_goes 3 refl asked o.counted
               (sim_still s p.0 l mv (kept_9 (view_of st) p.0 s.inv l e mv x) (record { link = (side_at s p.0 l e).link; call = tt }));
-          step-10 = λ e st' x mv. (
+          step_10 = λ e st' x mv. (
             record {
               sim = sim_still s p.0 l mv (kept_10 (view_of st) p.0 s.inv l e mv x) (record { link = (side_at s p.0 l e).link; call = tt });
               one = simulated.one;
             },
             record { mark = refl; by_step5 = λ two. absurd (omega (arith, two)); says = tt },
           );
-          step-14-yes = λ e same st' x mv. (
+          step_14_yes = λ e same st' x mv. (
             record {
               sim =
                   on_own_word (c.op p.0) says_yes
@@ -318,7 +318,7 @@ module _ {v : ℕ} {st : State} (c : Calls ℕ) (m : Word ℕ) (simulated : Simu
             },
             record { mark = refl; by_step5 = λ two. absurd (omega (arith, two)); says = tested same },
           );
-          step-14-no = λ e other st' x mv. (
+          step_14_no = λ e other st' x mv. (
             record {
               sim =
                   on_own_word (c.op p.0) says_no
