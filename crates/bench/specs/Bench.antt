@@ -1,5 +1,5 @@
 -- The whole run of a file with a lent log: what is returned, and what every byte of the log then is.
-use Rattle.std.specs.Prelude.{ℕ, ◌+◌, cond, List, ◌++◌, map, leb, length, drop}
+use Rattle.std.specs.Prelude.{ℕ, cond, List, ◌++◌, map, leb, length, drop}
 use Rattle.schedule.specs.File.{reading, file_entries}
 use Rattle.bench.specs.Types.{Reading, Refused, Accepted, State, Ran}
 use Rattle.machine.specs.State.{start_of, zero_state}

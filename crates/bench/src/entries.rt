@@ -7,10 +7,10 @@ ghost use Rattle.bench.specs.Play.{played_from, records_from};
 
 use crate::Played;
 use crate::note::{count, note_of};
-use run_log::write::write_record;
 use machine::State;
 use machine::parts::{play_coded, seat_of, steps_ahead};
 use numbers::Process;
+use run_log::write::write_record;
 use schedule::{block_of, fields_at, used_entries};
 use step::call::{fresh, reached_row};
 

@@ -4,8 +4,8 @@ ghost use Rattle.step.specs.Steps.{same_tag};
 ghost use Rattle.machine.specs.Run.{mark_by};
 ghost use Rattle.bench.specs.Play.{record_from};
 
-use run_log::Note;
 use numbers::Version;
+use run_log::Note;
 use step::answer::tell;
 use step::number::same_tag;
 use step::{Outcome, Tag};

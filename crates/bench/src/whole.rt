@@ -6,10 +6,10 @@ ghost use Rattle.run_log.specs.Log.{log_length};
 
 use crate::entries::play_entries;
 use crate::{Played, Ran};
-use run_log::write::lay_head;
 use machine::State;
 use machine::opening::{start, zero_state};
 use numbers::{Sequence, Version};
+use run_log::write::lay_head;
 use schedule::{Reading, read_file};
 
 fn turn_away(number: usize, block: usize, place: usize) -> Ran

@@ -8,7 +8,7 @@ use mathlib.Core.Option.{none}
 use mathlib.Core.Logic.{◌≢◌, inl, inr}
 use mathlib.Core.List.{List, [], ◌∷◌, ◌++◌}
 use native.Mathlib.Omega.{arith}
-use Rattle.step.specs.Steps.{same_tag, at}
+use Rattle.step.specs.Steps.{same_tag}
 use Rattle.linear.specs.Types.{Row, Record, Place, Idle, Store9}
 use Rattle.linear.proofs.View.{View, row_at, record_at, Moved}
 use Rattle.word.specs.Word.{Link, Op, load, store, Answer, value, done, not_done, put, linked, answer_of, first, Call, words_after}
@@ -22,7 +22,7 @@ use Rattle.word.proofs.Aside.{Undecided, LateFor, end_link, Aside, aside_same, a
 use Rattle.linear.proofs.History.{Change, At}
 use Rattle.linear.proofs.Invariant.{slot_of, Inv}
 use Rattle.linear.proofs.Consequences.{place_low, tag_test}
-use Rattle.linear.proofs.Kept.{own, row, new_change}
+use Rattle.linear.proofs.Kept.{new_change}
 use Rattle.linear.proofs.Side.{LinkOk, Side, SideAt, Sim, Longer, link_on, side_on, linked_same}
 
 -- An entry that changes no state: a refused one.

@@ -14,7 +14,7 @@ use lib.Seq.{get_or-set_same}
 use Rattle.numbers.specs.Numbers.{in_range}
 use Rattle.numbers.proofs.Range.{range_of}
 use Rattle.linear.specs.Types.{Process, Sequence, Kind, Step, Place, Idle, Load1, Load3, Load5, Store7, Store8, Check14, Outcome, GoesOn, Value, Record, State}
-use Rattle.step.specs.Steps.{same_tag, at, with_slot, own_steps, idle, told_of}
+use Rattle.step.specs.Steps.{same_tag, with_slot, own_steps, idle, told_of}
 use Rattle.machine.specs.State.{row_at, record_at, first_state}
 use Rattle.machine.specs.Entry.{called}
 use Rattle.machine.specs.Frame.{Ready}

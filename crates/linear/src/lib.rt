@@ -3,4 +3,3 @@
 // This library has no function: what it gives to other crates are the definitions in specs/ and the
 // theorems on them in proofs/.
 #![tactic(auto)]
-
