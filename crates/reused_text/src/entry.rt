@@ -6,11 +6,11 @@ ghost use Rattle.reused_text.specs.Played.{bit_number, seat_of, record_from};
 
 use crate::Next;
 use crate::form::read_bit_line;
-use run_log::Note;
 use numbers::{Process, Version};
 use reused::parts::{steps_by, x_changed};
 use reused::tell::tell;
 use reused::{Kind, Outcome, Place, Triple};
+use run_log::Note;
 use writer::find::place_of;
 
 // The entry that the next line asks for, and the place behind its newline.

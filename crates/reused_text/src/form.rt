@@ -88,6 +88,7 @@ fn no_sizes() -> Sizes
 }
 
 // N and M from what their fields say.
+#[tactic(auto, unfolding(crate::specs::Parts::sizes_by))]
 fn sizes_with(n: Numeral, m: Numeral) -> Sizes
     ensures { result ≡ sizes_by n m }
 {

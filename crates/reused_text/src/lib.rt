@@ -13,7 +13,7 @@ pub mod whole;
 pub use whole::play_text;
 
 // What came of a text: 0 or what turned it away, the line that 25 names, and how many entries were played.
-#[derive(Drop)]
+#[derive(Clone, Copy)]
 pub struct Ran {
     pub number: usize,
     pub line: usize,

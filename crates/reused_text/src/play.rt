@@ -5,10 +5,10 @@ ghost use Rattle.reused_text.specs.Parts.{bit_entries_from};
 ghost use Rattle.reused_text.specs.Played.{changes_from, records_from};
 
 use crate::entry::{count, next_entry, note_of, seat_of};
-use run_log::write::write_record;
 use numbers::Version;
 use reused::State;
 use reused::parts::play_parts;
+use run_log::write::write_record;
 
 // Plays the entries that the lines from a place on ask for, and writes their records into the front of the rest of the log.
 pub(crate) fn play_lines(

@@ -58,6 +58,7 @@ fn pass_over(number: usize, line: usize) -> Scanned
 }
 
 // "16, then 24", then 26: all lines are in the form.
+#[tactic(auto, unfolding(crate::specs::Parts::judged))]
 fn judge(sizes: Sizes, from: usize, entries: usize) -> Scanned
     ensures { result ≡ judged sizes from entries }
 {

@@ -8,9 +8,9 @@ ghost use Rattle.reused_text.specs.Played.{text_log, ran_not, ran_of, log_after}
 use crate::play::play_lines;
 use crate::scan::scan;
 use crate::{Ran, Scanned};
-use run_log::write::lay_head;
 use numbers::Version;
 use reused::opening::start;
+use run_log::write::lay_head;
 
 fn turn_away(number: usize, line: usize) -> Ran
     ensures { result ≡ ran_not number line }

@@ -1,0 +1,41 @@
+-- The loop keeps `Turn`: after j turns state, count and log are those of the run of the first j entries. Each turn is `turn_next`.
+use Rattle.std.proofs.Common.{arith}
+use Rattle.reused.proofs.PartsOfRun.{row_place}
+use Rattle.reused_text.proofs.Turns.{turn_start, turn_next, turn_end, seat_there, search_there, answer_small, count_low}
+use Rattle.reused_text.proofs.play.play_lines.Goals as goal
+
+pub loop-j-init : goal.loop-j-init
+loop-j-init c =
+    let h = c.requires in
+    turn_start _ _ _ _ _ h.0 h.1 h.2 h.3 h.4
+
+pub bounds-st-i : goal.bounds-st-i
+bounds-st-i c = seat_there c.loop-j.invariant c.next_entry-next.result.entry _ c.seat_of-seat.ensures
+
+pub offset_bounds-st-k : goal.offset_bounds-st-k
+offset_bounds-st-k c = row_place _ (search_there c.loop-j.invariant c.next_entry-next.result.entry _ c.seat_of-seat.ensures)
+
+pub bounds-st-k : goal.bounds-st-k
+bounds-st-k c = search_there c.loop-j.invariant c.next_entry-next.result.entry _ c.seat_of-seat.ensures
+
+pub bounds-st-i-in-loop-j : goal.bounds-st-i-in-loop-j
+bounds-st-i-in-loop-j c = seat_there c.loop-j.invariant c.next_entry-next.result.entry _ c.seat_of-seat.ensures
+
+pub note_of-note-requires : goal.note_of-note-requires
+note_of-note-requires c = answer_small c.loop-j.invariant c.next_entry-next.result.entry _ c.seat_of-seat.ensures _ c.play_parts-r.ensures
+
+pub count-changes-requires : goal.count-changes-requires
+count-changes-requires c = count_low c.loop-j.invariant c.loop-j-test.true
+
+pub loop-j-preserved : goal.loop-j-preserved
+loop-j-preserved c =
+    turn_next c.loop-j.invariant c.loop-j-test.true
+    _ _ c.next_entry-next.ensures.0 c.next_entry-next.ensures.1
+    _ c.seat_of-seat.ensures
+    _ c.play_parts-r.ensures
+    _ c.note_of-note.ensures
+    _ c.count-changes.ensures
+    _ c.write_record.ensures
+
+pub returns : goal.returns
+returns c = turn_end c.loop-j.invariant c.loop-j-test.false
