@@ -1,8 +1,4 @@
-// The door for C: every exported function, thin over the crates below, and nothing else. `rt staticlib reefcapstan` makes the one archive
-// that people link with the one header. Only `reefcapstan_run` reaches the machine's steps, and it must stay the only one: then the
-// compiler makes one function of all that plays a file (the reader, which the lister shares, stays one of its own). With a second root that
-// reaches the steps (a direct call, say) the run takes up to half as long again (docs/SPEED.md), so such an export belongs in an archive of
-// its own.
+// The door for C: every function that crate `reefcapstan_c` exports, thin over the crates below, and nothing else.
 #![tactic(auto)]
 
 ghost use Rattle.std.specs.Prelude.{◌≡◌, cond, ◌≤◌, ◌<◌, eqb};
@@ -25,8 +21,7 @@ fn refusal(number: usize, block: usize, place: usize) -> u64
 }
 
 // Plays a file: 0, or what a refused file gives.
-#[unsafe(no_mangle)]
-pub extern "C" fn reefcapstan_run(file: &[u8], log: &mut [u8]) -> u32
+pub fn reefcapstan_run(file: &[u8], log: &mut [u8]) -> u32
     ensures { (result ≡ c_number file.now log.old) × (log.new ≡ log_after file.now log.old) }
 {
     let ran = run(file, log);
@@ -54,8 +49,7 @@ fn by_number(number: usize, done: u64, refused: u64) -> u64
 }
 
 // Writes the file of a text: number + 256 times the length of the file, or times the line for 25.
-#[unsafe(no_mangle)]
-pub extern "C" fn reefcapstan_write(text: &[u8], out: &mut [u8]) -> u64
+pub fn reefcapstan_write(text: &[u8], out: &mut [u8]) -> u64
     ensures { (result ≡ c_written text.now out.old) × (out.new ≡ written_in text.now out.old) }
 {
     let written = write_text(text, out);
@@ -67,8 +61,7 @@ pub extern "C" fn reefcapstan_write(text: &[u8], out: &mut [u8]) -> u64
 }
 
 // Writes the text of a file: 256 times the length of the text; else number, block and place as for a run (27 has neither).
-#[unsafe(no_mangle)]
-pub extern "C" fn reefcapstan_list(file: &[u8], out: &mut [u8]) -> u64
+pub fn reefcapstan_list(file: &[u8], out: &mut [u8]) -> u64
     ensures { (result ≡ c_listed file.now out.old) × (out.new ≡ listed_in file.now out.old) }
 {
     let listed = list_file(file, out);
