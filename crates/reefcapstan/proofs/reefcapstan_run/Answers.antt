@@ -1,5 +1,4 @@
 -- Number, block and place are small, so the C number fits.
-use Rattle.std.proofs.Common.{arith}
 use Rattle.reefcapstan.proofs.Numbers.{RanLow, ran_low}
 use Rattle.reefcapstan.proofs.reefcapstan_run.Goals as goal
 
