@@ -1,6 +1,6 @@
 /* The bench: plays a schedule file and writes a log of every entry; writes schedule files from texts, and texts from schedule files.
  *
- * Link with target/staticlib/libreefcapstan.a, which `rt staticlib reefcapstan` makes. The functions are pure: they keep nothing between
+ * Link with target/staticlib/libreefcapstan.a, which `tools/archive` makes. The functions are pure: they keep nothing between
  * calls, allocate nothing, and need less than 8 KB of stack.
  */
 #ifndef REEFCAPSTAN_H
