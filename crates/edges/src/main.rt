@@ -5,7 +5,6 @@
 ghost use Rattle.std.specs.Prelude.{◌+◌, ◌*◌, ◌≤◌, length};
 
 use bench::whole::run;
-use libc::STDOUT_FILENO;
 use schedule::check_of;
 
 // Gives block k its place and its check.
@@ -48,64 +47,91 @@ fn lay_first(file: &mut [u8], n: u8, s: u8, later: u8, third: u8, low: u8, high:
     file[509] = high;
 }
 
-fn show(out: &[u8], n: usize) {
+fn show(output: &impl Print, out: &[u8], n: usize) {
     if n <= out.len() {
-        io::write_all(STDOUT_FILENO, &out[0..n]);
+        let _ = output.write_all(&out[0..n]);
     }
 }
 
-fn show_line(log: &[u8], place: u32) {
+fn show_line(output: &impl Print, log: &[u8], place: u32) {
     let mut out = [0u8; 128];
     let n = text::line::write_line_of(&mut out, log, place);
-    show(&out, n);
+    show(output, &out, n);
 }
 
 // Plays a file and prints what came of it behind its name.
-fn try_file(name: &[u8], file: &[u8], log: &mut [u8]) {
+fn try_file(output: &impl Print, name: &[u8], file: &[u8], log: &mut [u8]) {
     let ran = run(file, log);
     let number = ran.number;
     let block = ran.block;
     let place = ran.place;
     let mut out = [0u8; 128];
-    io::write_all(STDOUT_FILENO, name);
+    let _ = output.write_all(name);
     if number == 0 {
         let n = text::line::write_head_of(&mut out, log);
-        show(&out, n);
+        show(output, &out, n);
     } else {
         let n = text::line::write_refused_line(&mut out, number, block, place);
-        show(&out, n);
+        show(output, &out, n);
     }
 }
 
 // A file of block 0 alone.
-fn try_first(name: &[u8], n: u8, s: u8, later: u8, third: u8, low: u8, high: u8) {
+fn try_first(
+    output: &impl Print,
+    name: &[u8],
+    n: u8,
+    s: u8,
+    later: u8,
+    third: u8,
+    low: u8,
+    high: u8,
+) {
     let mut file = [0u8; 512];
     let mut log = [0u8; 12];
     lay_first(&mut file, n, s, later, third, low, high);
     seal(&mut file, 0);
-    try_file(name, &file, &mut log);
+    try_file(output, name, &file, &mut log);
 }
 
 // What block 0 is refused with, in order: each file has one thing wrong less than the one before it.
-fn try_order() {
-    try_first(b"N 0, S 1, 1 later block, stray bytes: ", 0, 1, 1, 1, 1, 1);
-    try_first(b"S 1, 1 later block, stray bytes: ", 2, 1, 1, 1, 1, 1);
-    try_first(b"1 later block, stray bytes: ", 2, 9, 1, 1, 1, 1);
-    try_first(b"stray bytes 3, 18, 509: ", 2, 9, 0, 1, 1, 1);
-    try_first(b"stray bytes 18, 509: ", 2, 9, 0, 0, 1, 1);
-    try_first(b"stray byte 509: ", 2, 9, 0, 0, 0, 1);
-    try_first(b"no stray byte: ", 2, 9, 0, 0, 0, 0);
+fn try_order(output: &impl Print) {
+    try_first(
+        output,
+        b"N 0, S 1, 1 later block, stray bytes: ",
+        0,
+        1,
+        1,
+        1,
+        1,
+        1,
+    );
+    try_first(
+        output,
+        b"S 1, 1 later block, stray bytes: ",
+        2,
+        1,
+        1,
+        1,
+        1,
+        1,
+    );
+    try_first(output, b"1 later block, stray bytes: ", 2, 9, 1, 1, 1, 1);
+    try_first(output, b"stray bytes 3, 18, 509: ", 2, 9, 0, 1, 1, 1);
+    try_first(output, b"stray bytes 18, 509: ", 2, 9, 0, 0, 1, 1);
+    try_first(output, b"stray byte 509: ", 2, 9, 0, 0, 0, 1);
+    try_first(output, b"no stray byte: ", 2, 9, 0, 0, 0, 0);
 }
 
 // Files of blocks without entries, as many as there may be and one more.
-fn try_lengths() {
+fn try_lengths(output: &impl Print) {
     let mut file = [0u8; 66048];
     let mut log = [0u8; 12];
-    try_file(b"length 0: ", &file[0..0], &mut log);
+    try_file(output, b"length 0: ", &file[0..0], &mut log);
     lay_first(&mut file, 2, 9, 127, 0, 0, 0);
     seal_all(&mut file, 129);
-    try_file(b"length 65,536: ", &file[0..65536], &mut log);
-    try_file(b"length 66,048: ", &file, &mut log);
+    try_file(output, b"length 65,536: ", &file[0..65536], &mut log);
+    try_file(output, b"length 66,048: ", &file, &mut log);
 }
 
 // How many entries block 1 has.
@@ -128,7 +154,7 @@ fn lay_entry(file: &mut [u8], j: usize, kind: u8, process: u8, value: u8)
 }
 
 // "LL by 1, three steps of 1, SC 40 by 1, four steps of 1, VL by 0, one step of 0"
-fn try_full_run() {
+fn try_full_run(output: &impl Print) {
     let mut file = [0u8; 1024];
     let mut log = [0u8; 144];
     let mut short = [0u8; 143];
@@ -146,29 +172,30 @@ fn try_full_run() {
     lay_entry(&mut file, 9, 3, 0, 0);
     lay_entry(&mut file, 10, 4, 0, 0);
     seal_all(&mut file, 2);
-    try_file(b"the full run: ", &file, &mut log);
-    show_lines(&log, 11);
-    try_file(b"log of 143 bytes: ", &file, &mut short);
+    try_file(output, b"the full run: ", &file, &mut log);
+    show_lines(output, &log, 11);
+    try_file(output, b"log of 143 bytes: ", &file, &mut short);
     file[510] = 132;
-    try_file(b"check 132: ", &file, &mut log);
+    try_file(output, b"check 132: ", &file, &mut log);
 }
 
-fn show_lines(log: &[u8], entries: u32) {
+fn show_lines(output: &impl Print, log: &[u8], entries: u32) {
     let mut place = 0;
     while place < entries {
-        show_line(log, place);
+        show_line(output, log, place);
         place = place + 1;
     }
 }
 
-fn main() {
-    try_lengths();
-    try_first(b"length 512, no entries, N 2: ", 2, 9, 0, 0, 0, 0);
-    try_first(b"N 16: ", 16, 9, 0, 0, 0, 0);
-    try_first(b"N 0: ", 0, 9, 0, 0, 0, 0);
-    try_first(b"N 17: ", 17, 9, 0, 0, 0, 0);
-    try_first(b"S 1: ", 2, 1, 0, 0, 0, 0);
-    try_first(b"S 2: ", 2, 2, 0, 0, 0, 0);
-    try_order();
-    try_full_run();
+fn main(rt: HostRuntime) {
+    let output = rt.stdout();
+    try_lengths(&output);
+    try_first(&output, b"length 512, no entries, N 2: ", 2, 9, 0, 0, 0, 0);
+    try_first(&output, b"N 16: ", 16, 9, 0, 0, 0, 0);
+    try_first(&output, b"N 0: ", 0, 9, 0, 0, 0, 0);
+    try_first(&output, b"N 17: ", 17, 9, 0, 0, 0, 0);
+    try_first(&output, b"S 1: ", 2, 1, 0, 0, 0, 0);
+    try_first(&output, b"S 2: ", 2, 2, 0, 0, 0, 0);
+    try_order(&output);
+    try_full_run(&output);
 }

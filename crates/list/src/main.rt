@@ -2,29 +2,39 @@
 // functions on byte slices (lister: the text, text: the line of a refusal); this program only moves bytes.
 #![tactic(auto)]
 
-use libc::{STDERR_FILENO, STDIN_FILENO, STDOUT_FILENO};
-use lister::list_file;
+ghost use Rattle.std.specs.Prelude.{◌≤◌, length, IfSome};
 
-// Whether the input is at its end: a read that fails, or that still finds a byte, says that it is not.
-fn at_end() -> bool {
-    let mut one = [0u8; 1];
-    let got = libc::read(STDIN_FILENO, &mut one);
-    got == 0
+use lister::list_file;
+use std::io::Read;
+
+// Reads until the buffer is full or the input ends, and answers how many bytes came; none is told where a read fails.
+fn read_full(input: &mut impl Read, buffer: &mut [u8]) -> Option<usize>
+    ensures { IfSome result (λ n. n ≤ length buffer.new) }
+{
+    let mut done = 0;
+    while done < buffer.len() {
+        match input.read(&mut buffer[done..]) {
+            Ok(0) => break,
+            Ok(n) => done += n,
+            Err(_) => return None,
+        }
+    }
+    Some(done)
 }
 
 // Writes the first n bytes, and answers whether all of them went out.
-fn show(out: &[u8], n: usize) -> bool {
+fn show(output: &impl Print, out: &[u8], n: usize) -> bool {
     if n <= out.len() {
-        io::write_all(STDOUT_FILENO, &out[0..n])
+        output.write_all(&out[0..n]).is_ok()
     } else {
         false
     }
 }
 
-fn show_refusal(number: usize, block: usize, place: usize) -> bool {
+fn show_refusal(output: &impl Print, number: usize, block: usize, place: usize) -> bool {
     let mut out = [0u8; 128];
     let n = text::line::write_refused_line(&mut out, number, block, place);
-    show(&out, n)
+    show(output, &out, n)
 }
 
 // Bytes that are enough for the text of every file (proved: text-most).
@@ -32,7 +42,7 @@ fn room() -> [u8; 234761] {
     [0u8; 234761]
 }
 
-fn list(file: &[u8]) -> bool {
+fn list(output: &impl Print, file: &[u8]) -> bool {
     let mut text = room();
     let listed = list_file(file, &mut text);
     let number = listed.number;
@@ -40,31 +50,33 @@ fn list(file: &[u8]) -> bool {
     let place = listed.place;
     let length = listed.length;
     if number == 0 {
-        show(&text, length)
+        show(output, &text, length)
     } else {
-        show_refusal(number, block, place)
+        show_refusal(output, number, block, place)
     }
 }
 
+// Words of trouble. Where they do not go out either, nobody is left to be told.
+fn complain(errors: &impl Print, words: &[u8]) {
+    let _ = errors.write_all(words);
+}
+
 // An input longer than the longest file fills the buffer, whose length no file has: it is refused by 1 like any other length.
-fn main() {
+fn main(rt: HostRuntime) {
     let mut file = [0u8; 65537];
-    let n = io::read_full(STDIN_FILENO, &mut file);
-    if n < 65537 {
-        let whole = at_end();
-        if !whole {
-            io::write_all(
-                STDERR_FILENO,
-                b"list: reading the schedule failed, so nothing was listed\n",
-            );
-            return;
+    match read_full(&mut rt.stdin(), &mut file) {
+        Some(n) => {
+            let out = list(&rt.stdout(), &file[..n]);
+            if !out {
+                complain(
+                    &rt.stderr(),
+                    b"list: writing failed, so the output is not whole\n",
+                );
+            }
         }
-    }
-    let out = list(&file[..n]);
-    if !out {
-        io::write_all(
-            STDERR_FILENO,
-            b"list: writing failed, so the output is not whole\n",
-        );
+        None => complain(
+            &rt.stderr(),
+            b"list: reading the schedule failed, so nothing was listed\n",
+        ),
     }
 }

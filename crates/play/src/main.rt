@@ -2,67 +2,74 @@
 // slices (bench: the run, text: the lines); this program only moves bytes.
 #![tactic(auto)]
 
+ghost use Rattle.std.specs.Prelude.{◌≤◌, length, IfSome};
+
 use bench::whole::run;
-use libc::{STDERR_FILENO, STDIN_FILENO, STDOUT_FILENO};
 use run_log::HeadFound;
 use run_log::read::read_head;
+use std::io::Read;
 
-// Whether the input is at its end: a read that fails, or that still finds a byte, says that it is not.
-fn at_end() -> bool {
-    let mut one = [0u8; 1];
-    let got = libc::read(STDIN_FILENO, &mut one);
-    got == 0
+// Reads until the buffer is full or the input ends, and answers how many bytes came; none is told where a read fails.
+fn read_full(input: &mut impl Read, buffer: &mut [u8]) -> Option<usize>
+    ensures { IfSome result (λ n. n ≤ length buffer.new) }
+{
+    let mut done = 0;
+    while done < buffer.len() {
+        match input.read(&mut buffer[done..]) {
+            Ok(0) => break,
+            Ok(n) => done += n,
+            Err(_) => return None,
+        }
+    }
+    Some(done)
 }
 
 // Writes the first n bytes of a line, and answers whether all of them went out.
-fn show(out: &[u8], n: usize) -> bool {
-    if n <= out.len() {
-        io::write_all(STDOUT_FILENO, &out[0..n])
+fn show(output: &impl Print, line: &[u8], n: usize) -> bool {
+    if n <= line.len() {
+        output.write_all(&line[0..n]).is_ok()
     } else {
         false
     }
 }
 
-fn show_refusal(number: usize, block: usize, place: usize) -> bool {
-    let mut out = [0u8; 128];
-    let n = text::line::write_refused_line(&mut out, number, block, place);
-    show(&out, n)
+fn show_refusal(output: &impl Print, number: usize, block: usize, place: usize) -> bool {
+    let mut line = [0u8; 128];
+    let n = text::line::write_refused_line(&mut line, number, block, place);
+    show(output, &line, n)
 }
 
-fn show_head(log: &[u8]) -> bool {
-    let mut out = [0u8; 128];
-    let n = text::line::write_head_of(&mut out, log);
-    show(&out, n)
+fn show_head(output: &impl Print, log: &[u8]) -> bool {
+    let mut line = [0u8; 128];
+    let n = text::line::write_head_of(&mut line, log);
+    show(output, &line, n)
 }
 
-fn show_line(log: &[u8], place: u32) -> bool {
-    let mut out = [0u8; 128];
-    let n = text::line::write_line_of(&mut out, log, place);
-    show(&out, n)
+fn show_line(output: &impl Print, log: &[u8], place: u32) -> bool {
+    let mut line = [0u8; 128];
+    let n = text::line::write_line_of(&mut line, log, place);
+    show(output, &line, n)
 }
 
 // One line an entry, up to the first that does not go out.
-fn show_lines(log: &[u8], entries: u32) -> bool {
-    let mut place = 0;
-    while place < entries {
-        let gone = show_line(log, place);
-        if gone {
-            place = place + 1;
-        } else {
+fn show_lines(output: &impl Print, log: &[u8], entries: u32) -> bool {
+    for place in 0..entries {
+        let gone = show_line(output, log, place);
+        if !gone {
             return false;
         }
     }
     true
 }
 
-fn show_log(log: &[u8]) -> bool {
-    let head = show_head(log);
+fn show_log(output: &impl Print, log: &[u8]) -> bool {
+    let head = show_head(output, log);
     if head {
         let found = read_head(log);
         match found {
             HeadFound::Laid(told) => {
                 let entries = told.entries;
-                show_lines(log, entries)
+                show_lines(output, log, entries)
             }
             HeadFound::NoHead => false,
         }
@@ -71,38 +78,40 @@ fn show_log(log: &[u8]) -> bool {
     }
 }
 
-fn play(file: &[u8]) -> bool {
+fn play(output: &impl Print, file: &[u8]) -> bool {
     let mut log = [0u8; 64020];
     let ran = run(file, &mut log);
     let number = ran.number;
     let block = ran.block;
     let place = ran.place;
     if number == 0 {
-        show_log(&log)
+        show_log(output, &log)
     } else {
-        show_refusal(number, block, place)
+        show_refusal(output, number, block, place)
     }
 }
 
+// Words of trouble. Where they do not go out either, nobody is left to be told.
+fn complain(errors: &impl Print, words: &[u8]) {
+    let _ = errors.write_all(words);
+}
+
 // An input longer than the longest file fills the buffer, whose length no file has: it is refused by 1 like any other length.
-fn main() {
+fn main(rt: HostRuntime) {
     let mut file = [0u8; 65537];
-    let n = io::read_full(STDIN_FILENO, &mut file);
-    if n < 65537 {
-        let whole = at_end();
-        if !whole {
-            io::write_all(
-                STDERR_FILENO,
-                b"play: reading the schedule failed, so nothing was played\n",
-            );
-            return;
+    match read_full(&mut rt.stdin(), &mut file) {
+        Some(n) => {
+            let out = play(&rt.stdout(), &file[..n]);
+            if !out {
+                complain(
+                    &rt.stderr(),
+                    b"play: writing failed, so the output is not whole\n",
+                );
+            }
         }
-    }
-    let out = play(&file[..n]);
-    if !out {
-        io::write_all(
-            STDERR_FILENO,
-            b"play: writing failed, so the output is not whole\n",
-        );
+        None => complain(
+            &rt.stderr(),
+            b"play: reading the schedule failed, so nothing was played\n",
+        ),
     }
 }

@@ -2,53 +2,63 @@
 // on byte slices (reused_text: the run, text: the lines); this program only moves bytes.
 #![tactic(auto)]
 
-use libc::{STDERR_FILENO, STDIN_FILENO, STDOUT_FILENO};
+ghost use Rattle.std.specs.Prelude.{◌≤◌, length, IfSome};
+
 use reused_text::play_text;
+use std::io::Read;
 use text::line::{write_head_of, write_refused_text_line};
 use text::page::write_lines_of;
 
-// Whether the input is at its end: a read that fails, or that still finds a byte, says that it is not.
-fn at_end() -> bool {
-    let mut one = [0u8; 1];
-    let got = libc::read(STDIN_FILENO, &mut one);
-    got == 0
+// Reads until the buffer is full or the input ends, and answers how many bytes came; none is told where a read fails.
+fn read_full(input: &mut impl Read, buffer: &mut [u8]) -> Option<usize>
+    ensures { IfSome result (λ n. n ≤ length buffer.new) }
+{
+    let mut done = 0;
+    while done < buffer.len() {
+        match input.read(&mut buffer[done..]) {
+            Ok(0) => break,
+            Ok(n) => done += n,
+            Err(_) => return None,
+        }
+    }
+    Some(done)
 }
 
 // Writes the first n bytes, and answers whether all of them went out.
-fn show(out: &[u8], n: usize) -> bool {
+fn show(output: &impl Print, out: &[u8], n: usize) -> bool {
     if n <= out.len() {
-        io::write_all(STDOUT_FILENO, &out[0..n])
+        output.write_all(&out[0..n]).is_ok()
     } else {
         false
     }
 }
 
-fn show_refusal(number: usize, line: usize) -> bool {
+fn show_refusal(output: &impl Print, number: usize, line: usize) -> bool {
     let mut out = [0u8; 128];
     let first = (number % 4294967296) as u32;
     let n = write_refused_text_line(&mut out, first, line as u64);
-    show(&out, n)
+    show(output, &out, n)
 }
 
-fn show_head(log: &[u8]) -> bool {
+fn show_head(output: &impl Print, log: &[u8]) -> bool {
     let mut out = [0u8; 128];
     let n = write_head_of(&mut out, log);
-    show(&out, n)
+    show(output, &out, n)
 }
 
 // As many lines as there is room for at a time; the answer is the place of the first that did not go out.
-fn show_some(log: &[u8], place: u32, entries: u32) -> u32 {
+fn show_some(output: &impl Print, log: &[u8], place: u32, entries: u32) -> u32 {
     let mut out = [0u8; 65536];
     let filled = write_lines_of(&mut out, log, place, entries);
-    let gone = show(&out, filled.bytes);
+    let gone = show(output, &out, filled.bytes);
     if gone { filled.place } else { place }
 }
 
 // One line an entry, up to the first that does not go out.
-fn show_lines(log: &[u8], entries: u32) -> bool {
+fn show_lines(output: &impl Print, log: &[u8], entries: u32) -> bool {
     let mut place = 0;
     while place < entries {
-        let next = show_some(log, place, entries);
+        let next = show_some(output, log, place, entries);
         if place < next {
             place = next;
         } else {
@@ -58,45 +68,58 @@ fn show_lines(log: &[u8], entries: u32) -> bool {
     true
 }
 
-fn play(text: &[u8], log: &mut [u8]) -> bool {
+fn play(output: &impl Print, text: &[u8], log: &mut [u8]) -> bool {
     let ran = play_text(text, log);
     let number = ran.number;
     let line = ran.line;
     let entries = ran.entries;
     if number == 0 {
-        let head = show_head(log);
+        let head = show_head(output, log);
         let few = (entries % 4294967296) as u32;
-        if head { show_lines(log, few) } else { false }
+        if head {
+            show_lines(output, log, few)
+        } else {
+            false
+        }
     } else {
-        show_refusal(number, line)
+        show_refusal(output, number, line)
     }
 }
 
+// Words of trouble. Where they do not go out either, nobody is left to be told.
+fn complain(errors: &impl Print, words: &[u8]) {
+    let _ = errors.write_all(words);
+}
+
 // A text that fills the lent part is longer than any that is taken.
-fn play_input(text: &mut [u8], log: &mut [u8]) {
-    let most = text.len();
-    let n = io::read_full(STDIN_FILENO, text);
-    if most <= n {
-        io::write_all(
-            STDERR_FILENO,
-            b"reuse: the text is longer than 1,048,576 bytes, so nothing was played\n",
-        );
-        return;
-    }
-    let whole = at_end();
-    if !whole {
-        io::write_all(
-            STDERR_FILENO,
+fn play_input(
+    input: &mut impl Read,
+    output: &impl Print,
+    errors: &impl Print,
+    text: &mut [u8],
+    log: &mut [u8],
+) {
+    match read_full(input, text) {
+        Some(n) => {
+            if text.len() <= n {
+                complain(
+                    errors,
+                    b"reuse: the text is longer than 1,048,576 bytes, so nothing was played\n",
+                );
+                return;
+            }
+            let out = play(output, &text[0..n], log);
+            if !out {
+                complain(
+                    errors,
+                    b"reuse: writing failed, so the output is not whole\n",
+                );
+            }
+        }
+        None => complain(
+            errors,
             b"reuse: reading the text failed, so nothing was played\n",
-        );
-        return;
-    }
-    let out = play(&text[0..n], log);
-    if !out {
-        io::write_all(
-            STDERR_FILENO,
-            b"reuse: writing failed, so the output is not whole\n",
-        );
+        ),
     }
 }
 
@@ -110,8 +133,14 @@ fn log_room() -> [u8; 3145740] {
     [0u8; 3145740]
 }
 
-fn main() {
+fn main(rt: HostRuntime) {
     let mut text = room();
     let mut log = log_room();
-    play_input(&mut text, &mut log);
+    play_input(
+        &mut rt.stdin(),
+        &rt.stdout(),
+        &rt.stderr(),
+        &mut text,
+        &mut log,
+    );
 }

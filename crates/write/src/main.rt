@@ -3,70 +3,80 @@
 // refusal goes to standard error.
 #![tactic(auto)]
 
-use libc::{STDERR_FILENO, STDIN_FILENO, STDOUT_FILENO};
+ghost use Rattle.std.specs.Prelude.{◌≤◌, length, IfSome};
+
+use std::io::Read;
 use writer::write_text;
 
-// Whether the input is at its end: a read that fails, or that still finds a byte, says that it is not.
-fn at_end() -> bool {
-    let mut one = [0u8; 1];
-    let got = libc::read(STDIN_FILENO, &mut one);
-    got == 0
+// Reads until the buffer is full or the input ends, and answers how many bytes came; none is told where a read fails.
+fn read_full(input: &mut impl Read, buffer: &mut [u8]) -> Option<usize>
+    ensures { IfSome result (λ n. n ≤ length buffer.new) }
+{
+    let mut done = 0;
+    while done < buffer.len() {
+        match input.read(&mut buffer[done..]) {
+            Ok(0) => break,
+            Ok(n) => done += n,
+            Err(_) => return None,
+        }
+    }
+    Some(done)
 }
 
 // Writes the first n bytes, and answers whether all of them went out.
-fn show(fd: i32, out: &[u8], n: usize) -> bool {
+fn show(output: &impl Print, out: &[u8], n: usize) -> bool {
     if n <= out.len() {
-        io::write_all(fd, &out[0..n])
+        output.write_all(&out[0..n]).is_ok()
     } else {
         false
     }
 }
 
-fn refuse(number: usize, line: usize) -> bool {
+fn refuse(errors: &impl Print, number: usize, line: usize) -> bool {
     let mut out = [0u8; 128];
     let first = (number % 4294967296) as u32;
     let n = text::line::write_refused_text_line(&mut out, first, line as u64);
-    show(STDERR_FILENO, &out, n)
+    show(errors, &out, n)
 }
 
-fn write_file(text: &[u8]) -> bool {
+fn write_file(output: &impl Print, errors: &impl Print, text: &[u8]) -> bool {
     let mut file = [0u8; 65536];
     let written = write_text(text, &mut file);
     let number = written.number;
     let line = written.line;
     let length = written.length;
     if number == 0 {
-        show(STDOUT_FILENO, &file, length)
+        show(output, &file, length)
     } else {
-        refuse(number, line)
+        refuse(errors, number, line)
     }
 }
 
+// Words of trouble. Where they do not go out either, nobody is left to be told.
+fn complain(errors: &impl Print, words: &[u8]) {
+    let _ = errors.write_all(words);
+}
+
 // A text that fills the lent part is longer than any that is taken.
-fn write_input(text: &mut [u8]) {
-    let most = text.len();
-    let n = io::read_full(STDIN_FILENO, text);
-    if most <= n {
-        io::write_all(
-            STDERR_FILENO,
-            b"write: the text is longer than 1,048,576 bytes, so nothing was written\n",
-        );
-        return;
-    }
-    let whole = at_end();
-    if !whole {
-        io::write_all(
-            STDERR_FILENO,
+fn write_input(input: &mut impl Read, output: &impl Print, errors: &impl Print, text: &mut [u8]) {
+    match read_full(input, text) {
+        Some(n) => {
+            if text.len() <= n {
+                complain(
+                    errors,
+                    b"write: the text is longer than 1,048,576 bytes, so nothing was written\n",
+                );
+                return;
+            }
+            let out = write_file(output, errors, &text[0..n]);
+            if !out {
+                complain(errors, b"write: writing failed, so the file is not whole\n");
+            }
+        }
+        None => complain(
+            errors,
             b"write: reading the text failed, so nothing was written\n",
-        );
-        return;
-    }
-    let out = write_file(&text[0..n]);
-    if !out {
-        io::write_all(
-            STDERR_FILENO,
-            b"write: writing failed, so the file is not whole\n",
-        );
+        ),
     }
 }
 
@@ -75,7 +85,7 @@ fn room() -> [u8; 1048577] {
     [0u8; 1048577]
 }
 
-fn main() {
+fn main(rt: HostRuntime) {
     let mut text = room();
-    write_input(&mut text);
+    write_input(&mut rt.stdin(), &rt.stdout(), &rt.stderr(), &mut text);
 }
