@@ -2,26 +2,31 @@
 // slices (bench: the run, text: the lines); this program only moves bytes.
 #![tactic(auto)]
 
-ghost use Rattle.std.specs.Prelude.{◌≤◌, length, IfSome};
+ghost use Rattle.std.specs.Prelude.{◌≤◌, length};
 
 use bench::whole::run;
 use run_log::HeadFound;
 use run_log::read::read_head;
 use std::io::Read;
 
-// Reads until the buffer is full or the input ends, and answers how many bytes came; none is told where a read fails.
-fn read_full(input: &mut impl Read, buffer: &mut [u8]) -> Option<usize>
-    ensures { IfSome result (λ n. n ≤ length buffer.new) }
+// Reads until the buffer is full, the input ends or a read fails, and answers how many bytes came.
+fn read_full(input: &mut impl Read, buffer: &mut [u8]) -> usize
+    ensures { result ≤ length buffer.new }
 {
     let mut done = 0;
     while done < buffer.len() {
         match input.read(&mut buffer[done..]) {
-            Ok(0) => break,
+            Ok(0) | Err(_) => break,
             Ok(n) => done += n,
-            Err(_) => return None,
         }
     }
-    Some(done)
+    done
+}
+
+// Whether the input is at its end: a read that fails, or that still finds a byte, says that it is not.
+fn at_end(input: &mut impl Read) -> bool {
+    let mut one = [0u8; 1];
+    matches!(input.read(&mut one), Ok(0))
 }
 
 // Writes the first n bytes of a line, and answers whether all of them went out.
@@ -98,20 +103,24 @@ fn complain(errors: &impl Print, words: &[u8]) {
 
 // An input longer than the longest file fills the buffer, whose length no file has: it is refused by 1 like any other length.
 fn main(rt: HostRuntime) {
+    let mut input = rt.stdin();
     let mut file = [0u8; 65537];
-    match read_full(&mut rt.stdin(), &mut file) {
-        Some(n) => {
-            let out = play(&rt.stdout(), &file[..n]);
-            if !out {
-                complain(
-                    &rt.stderr(),
-                    b"play: writing failed, so the output is not whole\n",
-                );
-            }
+    let n = read_full(&mut input, &mut file);
+    if n < 65537 {
+        let whole = at_end(&mut input);
+        if !whole {
+            complain(
+                &rt.stderr(),
+                b"play: reading the schedule failed, so nothing was played\n",
+            );
+            return;
         }
-        None => complain(
+    }
+    let out = play(&rt.stdout(), &file[..n]);
+    if !out {
+        complain(
             &rt.stderr(),
-            b"play: reading the schedule failed, so nothing was played\n",
-        ),
+            b"play: writing failed, so the output is not whole\n",
+        );
     }
 }

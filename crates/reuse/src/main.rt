@@ -2,26 +2,32 @@
 // on byte slices (reused_text: the run, text: the lines); this program only moves bytes.
 #![tactic(auto)]
 
-ghost use Rattle.std.specs.Prelude.{◌≤◌, length, IfSome};
+ghost use Rattle.std.specs.Prelude.{◌≤◌, length};
 
 use reused_text::play_text;
+use std::alloc::{AllocError, Global};
 use std::io::Read;
 use text::line::{write_head_of, write_refused_text_line};
 use text::page::write_lines_of;
 
-// Reads until the buffer is full or the input ends, and answers how many bytes came; none is told where a read fails.
-fn read_full(input: &mut impl Read, buffer: &mut [u8]) -> Option<usize>
-    ensures { IfSome result (λ n. n ≤ length buffer.new) }
+// Reads until the buffer is full, the input ends or a read fails, and answers how many bytes came.
+fn read_full(input: &mut impl Read, buffer: &mut [u8]) -> usize
+    ensures { result ≤ length buffer.new }
 {
     let mut done = 0;
     while done < buffer.len() {
         match input.read(&mut buffer[done..]) {
-            Ok(0) => break,
+            Ok(0) | Err(_) => break,
             Ok(n) => done += n,
-            Err(_) => return None,
         }
     }
-    Some(done)
+    done
+}
+
+// Whether the input is at its end: a read that fails, or that still finds a byte, says that it is not.
+fn at_end(input: &mut impl Read) -> bool {
+    let mut one = [0u8; 1];
+    matches!(input.read(&mut one), Ok(0))
 }
 
 // Writes the first n bytes, and answers whether all of them went out.
@@ -99,43 +105,45 @@ fn play_input(
     text: &mut [u8],
     log: &mut [u8],
 ) {
-    match read_full(input, text) {
-        Some(n) => {
-            if text.len() <= n {
-                complain(
-                    errors,
-                    b"reuse: the text is longer than 1,048,576 bytes, so nothing was played\n",
-                );
-                return;
-            }
-            let out = play(output, &text[0..n], log);
-            if !out {
-                complain(
-                    errors,
-                    b"reuse: writing failed, so the output is not whole\n",
-                );
-            }
-        }
-        None => complain(
+    let most = text.len();
+    let n = read_full(input, text);
+    if most <= n {
+        complain(
+            errors,
+            b"reuse: the text is longer than 1,048,576 bytes, so nothing was played\n",
+        );
+        return;
+    }
+    let whole = at_end(input);
+    if !whole {
+        complain(
             errors,
             b"reuse: reading the text failed, so nothing was played\n",
-        ),
+        );
+        return;
+    }
+    let out = play(output, &text[0..n], log);
+    if !out {
+        complain(
+            errors,
+            b"reuse: writing failed, so the output is not whole\n",
+        );
     }
 }
 
 // One byte more than the longest text that is taken.
-fn room() -> [u8; 1048577] {
-    [0u8; 1048577]
+fn room(alloc: Global) -> Result<Vec<u8>, AllocError> {
+    vec![in alloc; 0u8; 1048577]
 }
 
 // A log for 262,144 entries: a line has four bytes at the least, so no text that is taken has more.
-fn log_room() -> [u8; 3145740] {
-    [0u8; 3145740]
+fn log_room(alloc: Global) -> Result<Vec<u8>, AllocError> {
+    vec![in alloc; 0u8; 3145740]
 }
 
-fn main(rt: HostRuntime) {
-    let mut text = room();
-    let mut log = log_room();
+fn main(rt: HostRuntime) -> Result<(), AllocError> {
+    let mut text = room(rt.alloc())?;
+    let mut log = log_room(rt.alloc())?;
     play_input(
         &mut rt.stdin(),
         &rt.stdout(),
@@ -143,4 +151,5 @@ fn main(rt: HostRuntime) {
         &mut text,
         &mut log,
     );
+    Ok(())
 }

@@ -3,24 +3,30 @@
 // refusal goes to standard error.
 #![tactic(auto)]
 
-ghost use Rattle.std.specs.Prelude.{◌≤◌, length, IfSome};
+ghost use Rattle.std.specs.Prelude.{◌≤◌, length};
 
+use std::alloc::{AllocError, Global};
 use std::io::Read;
 use writer::write_text;
 
-// Reads until the buffer is full or the input ends, and answers how many bytes came; none is told where a read fails.
-fn read_full(input: &mut impl Read, buffer: &mut [u8]) -> Option<usize>
-    ensures { IfSome result (λ n. n ≤ length buffer.new) }
+// Reads until the buffer is full, the input ends or a read fails, and answers how many bytes came.
+fn read_full(input: &mut impl Read, buffer: &mut [u8]) -> usize
+    ensures { result ≤ length buffer.new }
 {
     let mut done = 0;
     while done < buffer.len() {
         match input.read(&mut buffer[done..]) {
-            Ok(0) => break,
+            Ok(0) | Err(_) => break,
             Ok(n) => done += n,
-            Err(_) => return None,
         }
     }
-    Some(done)
+    done
+}
+
+// Whether the input is at its end: a read that fails, or that still finds a byte, says that it is not.
+fn at_end(input: &mut impl Read) -> bool {
+    let mut one = [0u8; 1];
+    matches!(input.read(&mut one), Ok(0))
 }
 
 // Writes the first n bytes, and answers whether all of them went out.
@@ -59,33 +65,36 @@ fn complain(errors: &impl Print, words: &[u8]) {
 
 // A text that fills the lent part is longer than any that is taken.
 fn write_input(input: &mut impl Read, output: &impl Print, errors: &impl Print, text: &mut [u8]) {
-    match read_full(input, text) {
-        Some(n) => {
-            if text.len() <= n {
-                complain(
-                    errors,
-                    b"write: the text is longer than 1,048,576 bytes, so nothing was written\n",
-                );
-                return;
-            }
-            let out = write_file(output, errors, &text[0..n]);
-            if !out {
-                complain(errors, b"write: writing failed, so the file is not whole\n");
-            }
-        }
-        None => complain(
+    let most = text.len();
+    let n = read_full(input, text);
+    if most <= n {
+        complain(
+            errors,
+            b"write: the text is longer than 1,048,576 bytes, so nothing was written\n",
+        );
+        return;
+    }
+    let whole = at_end(input);
+    if !whole {
+        complain(
             errors,
             b"write: reading the text failed, so nothing was written\n",
-        ),
+        );
+        return;
+    }
+    let out = write_file(output, errors, &text[0..n]);
+    if !out {
+        complain(errors, b"write: writing failed, so the file is not whole\n");
     }
 }
 
 // One byte more than the longest text that is taken.
-fn room() -> [u8; 1048577] {
-    [0u8; 1048577]
+fn room(alloc: Global) -> Result<Vec<u8>, AllocError> {
+    vec![in alloc; 0u8; 1048577]
 }
 
-fn main(rt: HostRuntime) {
-    let mut text = room();
+fn main(rt: HostRuntime) -> Result<(), AllocError> {
+    let mut text = room(rt.alloc())?;
     write_input(&mut rt.stdin(), &rt.stdout(), &rt.stderr(), &mut text);
+    Ok(())
 }
