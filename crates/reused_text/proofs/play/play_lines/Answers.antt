@@ -1,5 +1,4 @@
 -- The loop keeps `Turn`: after j turns state, count and log are those of the run of the first j entries. Each turn is `turn_next`.
-use Rattle.std.proofs.Common.{arith}
 use Rattle.reused.proofs.PartsOfRun.{row_place}
 use Rattle.reused_text.proofs.Turns.{turn_start, turn_next, turn_end, seat_there, search_there, answer_small, count_low}
 use Rattle.reused_text.proofs.play.play_lines.Goals as goal
