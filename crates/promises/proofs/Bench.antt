@@ -6,8 +6,8 @@ use Rattle.bench.specs.contracts.note.note_of
 use Rattle.bench.specs.contracts.whole.run
 
 module _ {M : Type 1} where
-  pub note_of_determined : Determined M note_of.ended note_of.clauses note_of.spec
-  note_of_determined = (λ 𝓛 mem run. refl, λ κs a k l. (same_result k l k.met l.met, refl))
+  pub note_of_determined : Determined M note_of.ended (λ 𝓤. note_of.clauses {𝓤 = 𝓤}) (λ 𝓤. note_of.spec {𝓤 = 𝓤})
+  note_of_determined = (λ 𝓤 𝓛 mem run. refl, λ κs a k l. (same_result k l k.met l.met, refl))
 
-  pub run_determined : Determined M run.ended run.clauses run.spec
-  run_determined = (λ 𝓛 mem run. refl, λ κs a k l. same_both k l (λ v. (k.last.0, (v, k.last.1.1))) k.met l.met)
+  pub run_determined : Determined M run.ended (λ 𝓤. run.clauses {𝓤 = 𝓤}) (λ 𝓤. run.spec {𝓤 = 𝓤})
+  run_determined = (λ 𝓤 𝓛 mem run. refl, λ κs a k l. same_both k l (λ v. (k.last.0, (v, k.last.1.1))) k.met l.met)

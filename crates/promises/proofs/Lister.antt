@@ -5,5 +5,5 @@ use Rattle.promises.proofs.Same.{same_both}
 use Rattle.lister.specs.contracts.listing.list_file
 
 module _ {M : Type 1} where
-  pub list_file_determined : Determined M list_file.ended list_file.clauses list_file.spec
-  list_file_determined = (λ 𝓛 mem run. refl, λ κs a k l. same_both k l (λ v. (k.last.0, (v, k.last.1.1))) k.met l.met)
+  pub list_file_determined : Determined M list_file.ended (λ 𝓤. list_file.clauses {𝓤 = 𝓤}) (λ 𝓤. list_file.spec {𝓤 = 𝓤})
+  list_file_determined = (λ 𝓤 𝓛 mem run. refl, λ κs a k l. same_both k l (λ v. (k.last.0, (v, k.last.1.1))) k.met l.met)

@@ -12,26 +12,26 @@ use Rattle.numbers.specs.contracts.range_number
 use Rattle.numbers.specs.contracts.wide
 
 module _ {M : Type 1} where
-  pub both_determined : Determined M both.ended both.clauses both.spec
-  both_determined = (λ 𝓛 mem run. refl, λ κs a k l. (same_result k l k.met l.met, refl))
+  pub both_determined : Determined M both.ended (λ 𝓤. both.clauses {𝓤 = 𝓤}) (λ 𝓤. both.spec {𝓤 = 𝓤})
+  both_determined = (λ 𝓤 𝓛 mem run. refl, λ κs a k l. (same_result k l k.met l.met, refl))
 
-  pub either_determined : Determined M either.ended either.clauses either.spec
-  either_determined = (λ 𝓛 mem run. refl, λ κs a k l. (same_result k l k.met l.met, refl))
+  pub either_determined : Determined M either.ended (λ 𝓤. either.clauses {𝓤 = 𝓤}) (λ 𝓤. either.spec {𝓤 = 𝓤})
+  either_determined = (λ 𝓤 𝓛 mem run. refl, λ κs a k l. (same_result k l k.met l.met, refl))
 
-  pub in_range_determined : Determined M in_range.ended in_range.clauses in_range.spec
-  in_range_determined = (λ 𝓛 mem run. refl, λ κs a k l. (same_result k l k.met l.met, refl))
+  pub in_range_determined : Determined M in_range.ended (λ 𝓤. in_range.clauses {𝓤 = 𝓤}) (λ 𝓤. in_range.spec {𝓤 = 𝓤})
+  in_range_determined = (λ 𝓤 𝓛 mem run. refl, λ κs a k l. (same_result k l k.met l.met, refl))
 
-  pub n_in_range_determined : Determined M n_in_range.ended n_in_range.clauses n_in_range.spec
-  n_in_range_determined = (λ 𝓛 mem run. refl, λ κs a k l. (same_result k l k.met l.met, refl))
+  pub n_in_range_determined : Determined M n_in_range.ended (λ 𝓤. n_in_range.clauses {𝓤 = 𝓤}) (λ 𝓤. n_in_range.spec {𝓤 = 𝓤})
+  n_in_range_determined = (λ 𝓤 𝓛 mem run. refl, λ κs a k l. (same_result k l k.met l.met, refl))
 
-  pub number_unless_determined : Determined M number_unless.ended number_unless.clauses number_unless.spec
-  number_unless_determined = (λ 𝓛 mem run. refl, λ κs a k l. (same_result k l k.met l.met, refl))
+  pub number_unless_determined : Determined M number_unless.ended (λ 𝓤. number_unless.clauses {𝓤 = 𝓤}) (λ 𝓤. number_unless.spec {𝓤 = 𝓤})
+  number_unless_determined = (λ 𝓤 𝓛 mem run. refl, λ κs a k l. (same_result k l k.met l.met, refl))
 
-  pub first_found_determined : Determined M first_found.ended first_found.clauses first_found.spec
-  first_found_determined = (λ 𝓛 mem run. refl, λ κs a k l. (same_result k l k.met l.met, refl))
+  pub first_found_determined : Determined M first_found.ended (λ 𝓤. first_found.clauses {𝓤 = 𝓤}) (λ 𝓤. first_found.spec {𝓤 = 𝓤})
+  first_found_determined = (λ 𝓤 𝓛 mem run. refl, λ κs a k l. (same_result k l k.met l.met, refl))
 
-  pub range_number_determined : Determined M range_number.ended range_number.clauses range_number.spec
-  range_number_determined = (λ 𝓛 mem run. refl, λ κs a k l. (same_result k l k.met l.met, refl))
+  pub range_number_determined : Determined M range_number.ended (λ 𝓤. range_number.clauses {𝓤 = 𝓤}) (λ 𝓤. range_number.spec {𝓤 = 𝓤})
+  range_number_determined = (λ 𝓤 𝓛 mem run. refl, λ κs a k l. (same_result k l k.met l.met, refl))
 
-  pub wide_determined : Determined M wide.ended wide.clauses wide.spec
-  wide_determined = (λ 𝓛 mem run. refl, λ κs a k l. (same_result_too k l k.met l.met, refl))
+  pub wide_determined : Determined M wide.ended (λ 𝓤. wide.clauses {𝓤 = 𝓤}) (λ 𝓤. wide.spec {𝓤 = 𝓤})
+  wide_determined = (λ 𝓤 𝓛 mem run. refl, λ κs a k l. (same_result_too k l k.met l.met, refl))

@@ -14,32 +14,32 @@ use Rattle.reused.specs.contracts.sound.is_sound
 use Rattle.reused.specs.contracts.tell.tell
 
 module _ {M : Type 1} where
-  pub call_determined : Determined M call.ended call.clauses call.spec
-  call_determined = (λ 𝓛 mem run. refl, λ κs a k l. (same_result k l k.met l.met, refl))
+  pub call_determined : Determined M call.ended (λ 𝓤. call.clauses {𝓤 = 𝓤}) (λ 𝓤. call.spec {𝓤 = 𝓤})
+  call_determined = (λ 𝓤 𝓛 mem run. refl, λ κs a k l. (same_result k l k.met l.met, refl))
 
-  pub zero_state_determined : Determined M zero_state.ended zero_state.clauses zero_state.spec
-  zero_state_determined = (λ 𝓛 mem run. refl, λ κs a k l. (same_result k l k.met l.met, refl))
+  pub zero_state_determined : Determined M zero_state.ended (λ 𝓤. zero_state.clauses {𝓤 = 𝓤}) (λ 𝓤. zero_state.spec {𝓤 = 𝓤})
+  zero_state_determined = (λ 𝓤 𝓛 mem run. refl, λ κs a k l. (same_result k l k.met l.met, refl))
 
-  pub sizes_number_determined : Determined M sizes_number.ended sizes_number.clauses sizes_number.spec
-  sizes_number_determined = (λ 𝓛 mem run. refl, λ κs a k l. (same_result k l k.met l.met, refl))
+  pub sizes_number_determined : Determined M sizes_number.ended (λ 𝓤. sizes_number.clauses {𝓤 = 𝓤}) (λ 𝓤. sizes_number.spec {𝓤 = 𝓤})
+  sizes_number_determined = (λ 𝓤 𝓛 mem run. refl, λ κs a k l. (same_result k l k.met l.met, refl))
 
-  pub start_determined : Determined M start.ended start.clauses start.spec
-  start_determined = (λ 𝓛 mem run. refl, λ κs a k l. (same_result k l k.met l.met, refl))
+  pub start_determined : Determined M start.ended (λ 𝓤. start.clauses {𝓤 = 𝓤}) (λ 𝓤. start.spec {𝓤 = 𝓤})
+  start_determined = (λ 𝓤 𝓛 mem run. refl, λ κs a k l. (same_result k l k.met l.met, refl))
 
-  pub play_parts_determined : Determined M play_parts.ended play_parts.clauses play_parts.spec
-  play_parts_determined = (λ 𝓛 mem run. refl, λ κs a k l. (same_result k l k.met l.met, refl))
+  pub play_parts_determined : Determined M play_parts.ended (λ 𝓤. play_parts.clauses {𝓤 = 𝓤}) (λ 𝓤. play_parts.spec {𝓤 = 𝓤})
+  play_parts_determined = (λ 𝓤 𝓛 mem run. refl, λ κs a k l. (same_result k l k.met l.met, refl))
 
-  pub steps_by_determined : Determined M steps_by.ended steps_by.clauses steps_by.spec
-  steps_by_determined = (λ 𝓛 mem run. refl, λ κs a k l. (same_result k l k.met l.met, refl))
+  pub steps_by_determined : Determined M steps_by.ended (λ 𝓤. steps_by.clauses {𝓤 = 𝓤}) (λ 𝓤. steps_by.spec {𝓤 = 𝓤})
+  steps_by_determined = (λ 𝓤 𝓛 mem run. refl, λ κs a k l. (same_result k l k.met l.met, refl))
 
-  pub x_changed_determined : Determined M x_changed.ended x_changed.clauses x_changed.spec
-  x_changed_determined = (λ 𝓛 mem run. refl, λ κs a k l. (same_result k l k.met l.met, refl))
+  pub x_changed_determined : Determined M x_changed.ended (λ 𝓤. x_changed.clauses {𝓤 = 𝓤}) (λ 𝓤. x_changed.spec {𝓤 = 𝓤})
+  x_changed_determined = (λ 𝓤 𝓛 mem run. refl, λ κs a k l. (same_result k l k.met l.met, refl))
 
-  pub parts_are_sound_determined : Determined M parts_are_sound.ended parts_are_sound.clauses parts_are_sound.spec
-  parts_are_sound_determined = (λ 𝓛 mem run. refl, λ κs a k l. (same_result k l k.met l.met, refl))
+  pub parts_are_sound_determined : Determined M parts_are_sound.ended (λ 𝓤. parts_are_sound.clauses {𝓤 = 𝓤}) (λ 𝓤. parts_are_sound.spec {𝓤 = 𝓤})
+  parts_are_sound_determined = (λ 𝓤 𝓛 mem run. refl, λ κs a k l. (same_result k l k.met l.met, refl))
 
-  pub is_sound_determined : Determined M is_sound.ended is_sound.clauses is_sound.spec
-  is_sound_determined = (λ 𝓛 mem run. refl, λ κs a k l. (same_result k l k.met l.met, refl))
+  pub is_sound_determined : Determined M is_sound.ended (λ 𝓤. is_sound.clauses {𝓤 = 𝓤}) (λ 𝓤. is_sound.spec {𝓤 = 𝓤})
+  is_sound_determined = (λ 𝓤 𝓛 mem run. refl, λ κs a k l. (same_result k l k.met l.met, refl))
 
-  pub tell_determined : Determined M tell.ended tell.clauses tell.spec
-  tell_determined = (λ 𝓛 mem run. refl, λ κs a k l. (same_result k l k.met l.met, refl))
+  pub tell_determined : Determined M tell.ended (λ 𝓤. tell.clauses {𝓤 = 𝓤}) (λ 𝓤. tell.spec {𝓤 = 𝓤})
+  tell_determined = (λ 𝓤 𝓛 mem run. refl, λ κs a k l. (same_result k l k.met l.met, refl))

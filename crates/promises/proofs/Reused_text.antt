@@ -5,5 +5,5 @@ use Rattle.promises.proofs.Same.{same_both}
 use Rattle.reused_text.specs.contracts.whole.play_text
 
 module _ {M : Type 1} where
-  pub play_text_determined : Determined M play_text.ended play_text.clauses play_text.spec
-  play_text_determined = (λ 𝓛 mem run. refl, λ κs a k l. same_both k l (λ v. (k.last.0, (v, k.last.1.1))) k.met l.met)
+  pub play_text_determined : Determined M play_text.ended (λ 𝓤. play_text.clauses {𝓤 = 𝓤}) (λ 𝓤. play_text.spec {𝓤 = 𝓤})
+  play_text_determined = (λ 𝓤 𝓛 mem run. refl, λ κs a k l. same_both k l (λ v. (k.last.0, (v, k.last.1.1))) k.met l.met)

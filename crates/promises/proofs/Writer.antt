@@ -8,14 +8,14 @@ use Rattle.writer.specs.contracts.find.place_of
 use Rattle.writer.specs.contracts.form.read_line
 
 module _ {M : Type 1} where
-  pub write_text_determined : Determined M write_text.ended write_text.clauses write_text.spec
-  write_text_determined = (λ 𝓛 mem run. refl, λ κs a k l. same_both k l (λ v. (k.last.0, (v, k.last.1.1))) k.met l.met)
+  pub write_text_determined : Determined M write_text.ended (λ 𝓤. write_text.clauses {𝓤 = 𝓤}) (λ 𝓤. write_text.spec {𝓤 = 𝓤})
+  write_text_determined = (λ 𝓤 𝓛 mem run. refl, λ κs a k l. same_both k l (λ v. (k.last.0, (v, k.last.1.1))) k.met l.met)
 
-  pub place_of_determined : Determined M place_of.ended place_of.clauses place_of.spec
-  place_of_determined = (λ 𝓛 mem run. refl, λ κs a k l. (same_result k l k.met l.met, refl))
+  pub place_of_determined : Determined M place_of.ended (λ 𝓤. place_of.clauses {𝓤 = 𝓤}) (λ 𝓤. place_of.spec {𝓤 = 𝓤})
+  place_of_determined = (λ 𝓤 𝓛 mem run. refl, λ κs a k l. (same_result k l k.met l.met, refl))
 
-  pub read_numeral_determined : Determined M read_numeral.ended read_numeral.clauses read_numeral.spec
-  read_numeral_determined = (λ 𝓛 mem run. refl, λ κs a k l. (same_result k l k.met l.met, refl))
+  pub read_numeral_determined : Determined M read_numeral.ended (λ 𝓤. read_numeral.clauses {𝓤 = 𝓤}) (λ 𝓤. read_numeral.spec {𝓤 = 𝓤})
+  read_numeral_determined = (λ 𝓤 𝓛 mem run. refl, λ κs a k l. (same_result k l k.met l.met, refl))
 
-  pub read_line_determined : Determined M read_line.ended read_line.clauses read_line.spec
-  read_line_determined = (λ 𝓛 mem run. refl, λ κs a k l. (same_result k l k.met l.met, refl))
+  pub read_line_determined : Determined M read_line.ended (λ 𝓤. read_line.clauses {𝓤 = 𝓤}) (λ 𝓤. read_line.spec {𝓤 = 𝓤})
+  read_line_determined = (λ 𝓤 𝓛 mem run. refl, λ κs a k l. (same_result k l k.met l.met, refl))

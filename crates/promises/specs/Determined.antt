@@ -23,7 +23,7 @@ module _ (M : Type 1) (T : Ended) (c : Promise M T) where
   -- The contract says what the clauses say, and nothing else.
   abbrev pub Stated : Contract M T → Type 2
   Stated s = (𝓤 : Ura M) (𝓛 : Logic 𝓤) (mem : Memory → SProp 𝓤) (run : Routine → Fun 𝓤)
-      → s 𝓛 mem run ≡ closing 𝓛 T (c 𝓤 𝓛 mem run)
+      → s 𝓤 𝓛 mem run ≡ closing 𝓛 T (c 𝓤 𝓛 mem run)
 
   -- A result, and a last value for each `&mut` of the arguments a, that meet the promise: in some model it holds of them.
   pub record Meets (κs : Lfts T.signature.lifetimes) (a : Args T.signature κs) : Type 2 where
