@@ -32,6 +32,9 @@ offset_bounds-rows-q-in-loop-j c = omega (arith, row_there c.loop-j.invariant c.
 pub bounds-records-a-in-loop-j : goal.bounds-records-a-in-loop-j
 bounds-records-a-in-loop-j c = seat_there c.loop-j.invariant c.fields_at-e.result _ c.seat_of-seat.ensures
 
+pub offset_bounds-records-a-in-loop-j : goal.offset_bounds-records-a-in-loop-j
+offset_bounds-records-a-in-loop-j c = omega (arith, seat_there c.loop-j.invariant c.fields_at-e.result _ c.seat_of-seat.ensures)
+
 pub count-changes-requires : goal.count-changes-requires
 count-changes-requires c = count_low c.loop-j.invariant c.loop-j-test.true
 
