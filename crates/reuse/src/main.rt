@@ -5,7 +5,6 @@
 ghost use Rattle.std.specs.Prelude.{◌≤◌, length};
 
 use reused_text::play_text;
-use std::alloc::{AllocError, Global};
 use std::io::Read;
 use text::line::{write_head_of, write_refused_text_line};
 use text::page::write_lines_of;
@@ -132,18 +131,18 @@ fn play_input(
 }
 
 // One byte more than the longest text that is taken.
-fn room(alloc: Global) -> Result<Vec<u8>, AllocError> {
-    vec![in alloc; 0u8; 1048577]
+fn room() -> [u8; 1048577] {
+    [0u8; 1048577]
 }
 
 // A log for 262,144 entries: a line has four bytes at the least, so no text that is taken has more.
-fn log_room(alloc: Global) -> Result<Vec<u8>, AllocError> {
-    vec![in alloc; 0u8; 3145740]
+fn log_room() -> [u8; 3145740] {
+    [0u8; 3145740]
 }
 
-fn main(rt: HostRuntime) -> Result<(), AllocError> {
-    let mut text = room(rt.alloc())?;
-    let mut log = log_room(rt.alloc())?;
+fn main(rt: HostRuntime) {
+    let mut text = room();
+    let mut log = log_room();
     play_input(
         &mut rt.stdin(),
         &rt.stdout(),
@@ -151,5 +150,4 @@ fn main(rt: HostRuntime) -> Result<(), AllocError> {
         &mut text,
         &mut log,
     );
-    Ok(())
 }

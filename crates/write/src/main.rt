@@ -5,7 +5,6 @@
 
 ghost use Rattle.std.specs.Prelude.{◌≤◌, length};
 
-use std::alloc::{AllocError, Global};
 use std::io::Read;
 use writer::write_text;
 
@@ -89,12 +88,11 @@ fn write_input(input: &mut impl Read, output: &impl Print, errors: &impl Print, 
 }
 
 // One byte more than the longest text that is taken.
-fn room(alloc: Global) -> Result<Vec<u8>, AllocError> {
-    vec![in alloc; 0u8; 1048577]
+fn room() -> [u8; 1048577] {
+    [0u8; 1048577]
 }
 
-fn main(rt: HostRuntime) -> Result<(), AllocError> {
-    let mut text = room(rt.alloc())?;
+fn main(rt: HostRuntime) {
+    let mut text = room();
     write_input(&mut rt.stdin(), &rt.stdout(), &rt.stderr(), &mut text);
-    Ok(())
 }
