@@ -118,16 +118,16 @@ module _ (st : State) (p : Process) (ready : Ready st) where
     small : leb (record_at st p.0).next.0 largest_next ≡ true
     small = le-leb (record_at st p.0).next.0 largest_next (omega (arith, ((sure ready).each p.0 l).high, (range_of st.n st.s (sure ready).range).last))
 
-    step-parts :
+    step_parts :
         ((entered st p Step).outcome ≡ (step_from st p place).outcome) × ((entered st p Step).state.x ≡ (step_from st p place).x)
         × (row_at (entered st p Step).state p.0 ≡ row_left place (row_at st p.0) (step_from st p place))
         × (record_at (entered st p Step).state p.0 ≡ (step_from st p place).own)
     unfolding entered step_of
-    step-parts =
+    step_parts =
         rw small
         (refl, refl, row_law place, record_same st p (reached_at p (record_at st p.0).kept place) (step_from st p place) (omega (arith, sixteen, ready.full.records)))
 
     pub step_left : Left p.0 st (step_from st p place) (row_left place (row_at st p.0) (step_from st p place)) (called st p Step)
     step_left =
-        let parts = step-parts in
+        let parts = step_parts in
         left_by Step (step_from st p place) (row_left place (row_at st p.0) (step_from st p place)) parts.0 parts.1 parts.2 parts.3

@@ -195,11 +195,11 @@ mark_1_of_99 h = omega (arith, h.1.1.1.0.says refl)
 
 -- run F with the mark by the route: process 1 stands after step 1 of its load, process 0 loads and changes the word, and process 1's load is
 -- answered by step 3; "the log says "current" and the word already stands for 20";
-pub mark-by-route :
+pub mark_by_route :
     ¬ AllTrueOfWord no_calls (first 7 0)
     (by 1 (Ask Load) ∷ by 1 Step ∷ by 0 (Ask Load) ∷ step ∷ step ∷ step ∷ by 0 (Ask (Store 20)) ∷ step ∷ step ∷ by 1 Step ∷ by 1 Step ∷ [])
     (told 1 0 0 0 0 ∷ told 1 1 1 0 0 ∷ taken ∷ on 1 ∷ on 2 ∷ told 0 2 3 1 7 ∷ taken ∷ on 1 ∷ on 2 ∷ told 1 1 2 0 0 ∷ told 1 2 3 1 7 ∷ [])
-mark-by-route h = omega (arith, h.1.1.1.1.1.1.1.1.1.1.0.mark)
+mark_by_route h = omega (arith, h.1.1.1.1.1.1.1.1.1.1.0.mark)
 
 -- a load that is answered by step 5 while nobody stores, which no run does: mark 1 is false of step 5, and 2 of the word;
 pub step_5_marked_1 : ¬ AllTrueOfWord no_calls (first 7 0) (by 0 (Ask Load) ∷ step ∷ step ∷ step ∷ step ∷ []) (taken ∷ on 1 ∷ on 2 ∷ on 3 ∷ told 0 2 4 1 7 ∷ [])
@@ -213,15 +213,15 @@ unlinked_changes h = false≢true (h.1.1.0.says refl)
 pub unlinked_says_yes : ¬ AllTrueOfWord no_calls (first 7 0) (by 0 (Ask Check) ∷ step ∷ []) (taken ∷ told 0 5 1 0 0 ∷ [])
 unlinked_says_yes h = false≢true h.1.0.says
 
-pub linked-not-done :
+pub linked_not_done :
     ¬ AllTrueOfWord no_calls (first 7 0) (by 0 (Ask Load) ∷ step ∷ step ∷ step ∷ by 0 (Ask (Store 5)) ∷ step ∷ step ∷ [])
     (taken ∷ on 1 ∷ on 2 ∷ told 0 2 3 1 7 ∷ taken ∷ on 1 ∷ told 0 4 2 0 0 ∷ [])
-linked-not-done h = false≢true (sym h.1.1.1.1.1.1.0.says)
+linked_not_done h = false≢true (sym h.1.1.1.1.1.1.0.says)
 
-pub linked-says-no :
+pub linked_says_no :
     ¬ AllTrueOfWord no_calls (first 7 0) (by 0 (Ask Load) ∷ step ∷ step ∷ step ∷ by 0 (Ask Check) ∷ step ∷ [])
     (taken ∷ on 1 ∷ on 2 ∷ told 0 2 3 1 7 ∷ taken ∷ told 0 6 1 0 0 ∷ [])
-linked-says-no h = false≢true (sym h.1.1.1.1.1.0.says)
+linked_says_no h = false≢true (sym h.1.1.1.1.1.0.says)
 
 -- And words that are not the one that an order leaves: with no call at all, another value, another count, a link.
 pub another_value : ¬ SameWord 2 7 no_calls [] (record { current = 8; count = 0; link = λ p. none })

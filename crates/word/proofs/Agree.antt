@@ -99,11 +99,11 @@ items = asks 1 0 load ∷ goes 1 ∷ asks 0 0 (store 20) ∷ goes 0 ∷ goes 0 �
 abbrev pub reply : ℕ → ℕ → ℕ → Op ℕ → ℕ → Answer ℕ → Reply ℕ
 reply place asked p o steps r = record { place = place; asked = asked; process = p; word = 0; op = o; steps = steps; answer = r }
 
-pub items-read :
+pub items_read :
     ((calls_from 2 no_calls items).played ≡ call 2 4 0 0 (store 20) done ∷ call 0 6 1 0 load (value 7) ∷ call 7 8 2 0 check says_no ∷ [])
     × ((calls_from 2 no_calls items).replies ≡ reply 6 0 1 load 3 (value 7) ∷ reply 8 7 2 check 1 says_no ∷ reply 11 2 0 (store 20) 4 done ∷ [])
 unfolding calls_from
-items-read = (refl, refl)
+items_read = (refl, refl)
 
 -- an entry of process p, and a record of it: outcome, steps, value
 abbrev pub entry : ℕ → Wants ℕ → Asked ℕ
@@ -113,20 +113,20 @@ abbrev pub says : ℕ → ℕ → ℕ → ℕ → Said ℕ
 says p outcome steps v = record { outcome = outcome; process = p; steps = steps; value = v }
 
 -- What an outcome tells of a step, number by number, and of a request.
-pub records-read :
+pub records_read :
     (map (λ o. item_of (entry 3 a_step) (says 3 o 1 9)) (0 ∷ 1 ∷ 2 ∷ 3 ∷ 4 ∷ 5 ∷ 6 ∷ 7 ∷ 14 ∷ [])
     ≡ away ∷ goes 3 ∷ answers 3 (value 9) ∷ answers 3 done ∷ answers 3 not_done ∷ answers 3 says_yes ∷ answers 3 says_no ∷ away ∷ away ∷ [])
     × (map (λ o. item_of (entry 3 (a_request 5 check)) (says 3 o 0 0)) (0 ∷ 1 ∷ 12 ∷ []) ≡ asks 3 5 check ∷ away ∷ away ∷ [])
-records-read = (refl, refl)
+records_read = (refl, refl)
 
 -- Records that are right, of a machine that may do anything: a load that goes on and is answered, and a step that nobody asked for.
 abbrev pub anything : Rules ℕ
 anything = record { no_value = 0; step_of_store = 2; MayGoOn = λ o k. Unit {0}; MayAnswer = λ o a k. Unit {0}; MayRefuse = λ opened o k. Unit {0} }
 
-pub records-right :
+pub records_right :
     RightRecords anything 2 no_calls (entry 0 (a_request 0 load) ∷ entry 0 a_step ∷ entry 0 a_step ∷ entry 0 a_step ∷ [])
     (says 0 0 0 0 ∷ says 0 1 1 0 ∷ says 0 2 2 7 ∷ says 0 14 0 0 ∷ [])
-records-right = (
+records_right = (
   record { process = refl; steps = refl; value = refl; allowed = (omega arith, refl) },
   (
     record { process = refl; steps = refl; value = refl; allowed = (omega arith, refl, tt) },
