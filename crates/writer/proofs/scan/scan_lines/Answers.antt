@@ -12,7 +12,7 @@ returns-then-end-n c =
     let entries = c.loop-at.entries in
     let end = c.place_from-end in
     let some : 0 < length (drop at text) = rw length-drop (omega (arith, c.loop-at-test.true)) in
-    let left = lines_left text at end.result end.ensures.0 (omega (arith, c.if-end-n.true)) in
+    let left = lines_left text at end.result end.ensures.0 (omega arith) in
     sym (c.loop-at.invariant.2 ∙ ap (over_lines (entries + 2) entries) left ∙ over_left line_fine (entries + 2) entries (omega arith) (drop at text) some)
 
 pub loop-at-preserved : goal.loop-at-preserved
@@ -22,7 +22,7 @@ loop-at-preserved c =
     let entries = c.loop-at.entries in
     let end = c.place_from-end in
     -- the line at hand has its newline
-    let within : end.result < length text = omega (arith, end.ensures.1, c.if-end-n.false) in
+    let within : end.result < length text = omega (arith, end.ensures.1) in
     let line = take (end.result - at) (drop at text) in
     let fine : line_fine line ≡ true = line_fine_is line c.read_line-this.ensures ∙ c.if-fine.true in
     let number : entries + 1 + 2 ≡ entries + 2 + 1 = omega arith in (
@@ -40,7 +40,7 @@ returns-else-fine c =
     let at = c.loop-at.at in
     let entries = c.loop-at.entries in
     let end = c.place_from-end in
-    let within : end.result < length text = omega (arith, end.ensures.1, c.if-end-n.false) in
+    let within : end.result < length text = omega (arith, end.ensures.1) in
     let line = take (end.result - at) (drop at text) in
     let not-fine = line_fine_is line c.read_line-this.ensures ∙ c.if-fine.false in
     sym (c.loop-at.invariant.2
