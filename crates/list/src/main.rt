@@ -42,7 +42,7 @@ fn show_refusal(output: &impl Print, number: usize, block: usize, place: usize) 
     show(output, &out, n)
 }
 
-// Bytes that are enough for the text of every file (proved: text-most).
+// Bytes that are enough for the text of every file (proved: text_most).
 fn room() -> [u8; 234761] {
     [0u8; 234761]
 }

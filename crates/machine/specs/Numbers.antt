@@ -1,5 +1,5 @@
 -- Document 01's numbers, read off as one table: what the log says of an entry on a state, by its conditions and in their order. Proved:
--- `numbers-in-order` in proofs/ says that this is what a direct call comes to, for every state, process and kind.
+-- `numbers_in_order` in proofs/ says that this is what a direct call comes to, for every state, process and kind.
 use Rattle.std.specs.Prelude.{ℕ, cond, leb, ltb}
 use Rattle.machine.specs.Types.{Process, Kind, Ask, Step, Request, Load, Store, Check, Record, Row, Place, Idle, Load1, Load2, Load3, Load5, Store7, Store8, Store9, Store10, Check14, State}
 use Rattle.step.specs.Steps.{is_near, same_tag, idle}

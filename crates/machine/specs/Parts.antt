@@ -1,4 +1,4 @@
--- An entry over the parts that it can reach, for a run that keeps the state itself and knows it sound: `played-by-parts` in proofs/ says
+-- An entry over the parts that it can reach, for a run that keeps the state itself and knows it sound: `played_by_parts` in proofs/ says
 -- that it is the entry.
 use Rattle.std.specs.Prelude.{ℕ, cond, eqb, ltb}
 use Rattle.machine.specs.Types.{Process, Sequence, Tag, Row, Record, Place, Kind, Ask, Step, Request, Load, Store, Check, Stepped, NoProcess}

@@ -39,7 +39,7 @@ entry_at p j = cond (leb (12 * j + 12) (length p)) (meant (take 12 (drop (12 * j
 abbrev pub fields_of : List ℕ → Fields
 fields_of e = record { kind = kind e; process = process e; value = value e }
 
--- where no entry stands: the fields of a step of process 255, as noEntry
+-- where no entry stands: the fields of a step of process 255, as no_entry
 abbrev pub no_fields : Fields
 no_fields = record { kind = 4; process = 255; value = 0 }
 

@@ -2,30 +2,30 @@
 --     Agree     the definitions at document 01's runs; an order holds exactly the calls given (stands, given)
 --     Silly     records that have to fall, whatever a machine's rules are
 --     Lists     facts on every element of a list, with no word in them
---     Put       a function changed at one place, and at two (change-comm)
+--     Put       a function changed at one place, and at two (change_comm)
 --     Play      the end of play (after); a list played in two parts
---     Changes   the changes of a word in a list (changed, total, valueAfter), and count and value at the end of play
+--     Changes   the changes of a word in a list (changed, total, value_after), and count and value at the end of play
 --     From      the place before change n + 1 of a word (place), and facts on all that stands from there on (From)
---     Relink    a link set earlier than it was: nobody but its process notices (plays-relink, after-relink)
---     Insert    a load put in before change n + 1 of its word (ins, ins-plays, ins-after, ins-in-time)
---     RealTime  "stands first" by places of the order (stands-first)
+--     Relink    a link set earlier than it was: nobody but its process notices (plays_relink, after_relink)
+--     Insert    a load put in before change n + 1 of its word (ins, ins_plays, ins_after, ins_in_time)
+--     RealTime  "stands first" by places of the order (stands_first)
 --     Good      an order of the calls decided so far, and the three ways in which it goes on
---     Told      replies and played calls, and how they go on; done-on: an item adds to the stores done exactly if it decides one
+--     Told      replies and played calls, and how they go on; done_on: an item adds to the stores done exactly if it decides one
 --     Stages    steps and replies by the stage of each process's call (Stage, Known), and how they go on with each item
 --     Aside     a process that takes no step while the order goes on (Aside): its open call, and its link
---     Ordered   an order and what is known of the replies make demand 3's OneOrder (one-order)
---     Items     an entry that is turned away tells nothing (item-away)
+--     Ordered   an order and what is known of the replies make demand 3's OneOrder (one_order_lem)
+--     Items     an entry that is turned away tells nothing (item_away)
 --     Decide    playing and real time decided by computing
 -- A machine's proof needs this of them:
---     the order      good-start, good-tick, good-append, good-load; at the end one-order, with the Told of the replies
---     the replies    the stage at each place of the machine; known-start; an entry by known-away, known-asks, known-goes, known-stored,
---                    known-done, known-answers or known-answered, and known-put; decides-at: whether it decides a store; `told` is that Told
---     the others     aside-same, aside-snoc, aside-load, and with them undecided-on, loading-on
---     a request      own-new makes its Undecided
---     a load's step  late-new at its first makes its LateFor; with late-later and `own` that makes the MayLoad of good-load
---     totals         good-count, good-value; total-snoc, total-quiet, total-ins; value-snoc, value-new, value-ins
---     what is quiet  writes-nothing, writes-other; what a store writes: writes-own
---     links          link-snoc, link-load; on other words good-load-after with other-word, after-snoc with link-kept
+--     the order      good_start, good_tick, good_append, good_load; at the end one_order_lem, with the Told of the replies
+--     the replies    the stage at each place of the machine; known_start; an entry by known_away, known_asks, known_goes, known_stored,
+--                    known_done, known_answers or known_answered, and known_put; decides_at: whether it decides a store; `told` is that Told
+--     the others     aside_same, aside_snoc, aside_load, and with them undecided_on, loading_on
+--     a request      own_new makes its Undecided
+--     a load's step  late_new at its first makes its LateFor; with late_later and `own` that makes the MayLoad of good_load
+--     totals         good_count, good_value; total_snoc, total_quiet, total_ins; value_snoc, value_new, value_ins
+--     what is quiet  writes_nothing, writes_other; what a store writes: writes_own
+--     links          link_snoc, link_load; on other words good_load_after with other_word, after_snoc with link_kept
 pub mod Agree
 pub mod Aside
 pub mod Changes

@@ -99,7 +99,7 @@ module _ {A : Type 0} where
 
   -- The same clause in demand 3's words, "a call answered before another was requested stands first", by places of the order: if
   -- the call at place i was answered at t, and the call at place j was requested after t, then i is before j. `Answered c t` says
-  -- that c was answered at the place t of the schedule. (It follows from InTime: `stands-first` in proofs/RealTime.antt.)
+  -- that c was answered at the place t of the schedule. (It follows from InTime: `stands_first` in proofs/RealTime.antt.)
   abbrev pub StandsFirst : (Call A → ℕ → Type 0) → List (Call A) → Type 0
   StandsFirst Answered order =
       (i j t : ℕ) (c d : Call A) → get_elem? order i ≡ some c → get_elem? order j ≡ some d → Answered c t → t < d.asked → i < j
