@@ -1,8 +1,12 @@
 -- The promise of each public function of `numbers` determines what it answers and what it leaves behind each `&mut`.
 use mathlib.Core.Path.{refl}
 use Rattle.promises.specs.Determined.{Determined}
-use Rattle.promises.proofs.Same.{same_result, same_result_too}
+use Rattle.promises.proofs.Same.{same_result, same_result_too, same_told}
+use Rattle.numbers.specs.Refusals.{number_in}
+use Rattle.numbers.proofs.Refusals.{same_answer}
+use Rattle.numbers.specs.contracts.Refusal.number
 use Rattle.numbers.specs.contracts.both
+use Rattle.numbers.specs.contracts.check_range
 use Rattle.numbers.specs.contracts.either
 use Rattle.numbers.specs.contracts.first_found
 use Rattle.numbers.specs.contracts.in_range
@@ -35,3 +39,9 @@ module _ {M : Type 1} where
 
   pub wide_determined : Determined M wide.ended (λ 𝓤. wide.clauses {𝓤 = 𝓤}) (λ 𝓤. wide.spec {𝓤 = 𝓤})
   wide_determined = (λ 𝓤 𝓛 mem run. refl, λ κs a k l. (same_result_too k l k.met l.met, refl))
+
+  pub check_range_determined : Determined M check_range.ended (λ 𝓤. check_range.clauses {𝓤 = 𝓤}) (λ 𝓤. check_range.spec {𝓤 = 𝓤})
+  check_range_determined = (λ 𝓤 𝓛 mem run. refl, λ κs a k l. (same_told k l number_in same_answer k.met l.met, refl))
+
+  pub refusal_number_determined : Determined M number.ended (λ 𝓤. number.clauses {𝓤 = 𝓤}) (λ 𝓤. number.spec {𝓤 = 𝓤})
+  refusal_number_determined = (λ 𝓤 𝓛 mem run. refl, λ κs a k l. (same_result k l k.met l.met, refl))

@@ -28,6 +28,11 @@ module _ {M : Type 1} {T : Ended} {c : Promise M T} {κs : Lfts T.signature.life
       → (fact l.𝓤 ((l.result ≡ z) × ψ)).holds l.resource → k.result ≡ l.result
   same_result_too = told (type_at T.signature.result κs).coded (λ e f. e.0 ∙ sym f.0)
 
+  -- the promise is an equation for the numbers that f reads off the result, and no two results have the same
+  pub same_told : {X : Type 0} (f : Res T.signature κs → X) → ((x y : Res T.signature κs) → f x ≡ f y → x ≡ y) → {z : X}
+      → (fact k.𝓤 (f k.result ≡ z)).holds k.resource → (fact l.𝓤 (f l.result ≡ z)).holds l.resource → k.result ≡ l.result
+  same_told f one = told (type_at T.signature.result κs).coded (λ d e. one k.result l.result (d ∙ sym e))
+
   -- the promise is an equation for a list of numbers, or one for the result and one for such a list, of which f makes the last values
   pub same_list : {x y z : List ℕ}
       → (fact k.𝓤 (x ≡ z)).holds k.resource → (fact l.𝓤 (y ≡ z)).holds l.resource → x ≡ y
