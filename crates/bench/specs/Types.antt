@@ -2,13 +2,13 @@
 pub use Rattle.numbers.specs.declared.Process.{Process}
 pub use Rattle.numbers.specs.declared.Sequence.{Sequence}
 pub use Rattle.numbers.specs.declared.Version.{Version}
-pub use Rattle.step.specs.declared.Entry.{Entry}
-pub use Rattle.step.specs.declared.Kind.{Kind}
-pub use Rattle.step.specs.declared.Kind.TheVariants.{Ask, Step}
+pub use Rattle.step.specs.Types.{Entry}
+pub use Rattle.step.specs.Types.{Kind}
+pub use Rattle.requests.specs.declared.Kind.TheVariants.{Ask, Step}
 pub use Rattle.step.specs.declared.Outcome.{Outcome}
 pub use Rattle.step.specs.declared.Place.{Place}
 pub use Rattle.step.specs.declared.Record.{Record}
-pub use Rattle.step.specs.declared.Request.TheVariants.{Load, Store, Check}
+pub use Rattle.requests.specs.declared.Request.TheVariants.{Load, Store, Check}
 pub use Rattle.step.specs.declared.Stepped.{Stepped}
 pub use Rattle.step.specs.declared.Tag.{Tag}
 pub use Rattle.machine.specs.declared.Answer.{Answer}

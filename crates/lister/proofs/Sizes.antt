@@ -8,10 +8,10 @@ use native.Mathlib.Decide.{dec_le}
 use native.Mathlib.Numerals.{add-one}
 use native.Mathlib.Omega.{arith}
 use lib.ListN.{length, length-append}
-use Rattle.step.specs.declared.Entry.{Entry}
-use Rattle.step.specs.declared.Kind.{Kind}
-use Rattle.step.specs.declared.Kind.TheVariants.{Ask, Step}
-use Rattle.step.specs.declared.Request.TheVariants.{Load, Store, Check}
+use Rattle.step.specs.Types.{Entry}
+use Rattle.step.specs.Types.{Kind}
+use Rattle.requests.specs.declared.Kind.TheVariants.{Ask, Step}
+use Rattle.requests.specs.declared.Request.TheVariants.{Load, Store, Check}
 use Rattle.text.specs.Decimal.{decimal_of}
 use Rattle.text.proofs.Digits.{decimal_length}
 use Rattle.schedule.specs.File.{reading, block_at, blocks_after, entries_to}

@@ -1,5 +1,6 @@
 // How long the lines of a text are.
 ghost use Rattle.std.specs.Prelude.{◌≡◌, true, ◌/◌, ◌≤◌, ◌<◌, length};
+ghost use Rattle.requests.specs.declared.Kind.TheVariants.{Ask, Step};
 ghost use Rattle.schedule.specs.File.{reading, file_entries};
 ghost use Rattle.schedule.specs.Direct.{is_accepted, part_entries};
 ghost use Rattle.writer.specs.Made.{kind_line, entry_line, entry_lines, start_line};
@@ -11,7 +12,7 @@ use text::field::count_digits;
 // A letter, a space, a number and a newline.
 #[tactic(auto, using(text::proofs::Digits::decimal_length, crate::proofs::Sizes::plain_size))]
 fn plain_length(p: u64) -> usize
-    ensures { result ≡ length (kind_line Kind.Step p) }
+    ensures { result ≡ length (kind_line Step p) }
 {
     let digits = count_digits(p);
     digits + 3
@@ -20,7 +21,7 @@ fn plain_length(p: u64) -> usize
 // The line of a request: a store has a number more.
 #[tactic(auto, using(text::proofs::Digits::decimal_length, crate::proofs::Sizes::plain_size, crate::proofs::Sizes::store_size))]
 fn request_length(p: u64, request: Request) -> usize
-    ensures { result ≡ length (kind_line (Kind.Ask request) p) }
+    ensures { result ≡ length (kind_line (Ask request) p) }
 {
     let plain = plain_length(p);
     match request {

@@ -1,5 +1,6 @@
 // The lines of a text, each stored from a place of the lent part on; the answer is the place behind it.
 ghost use Rattle.std.specs.Prelude.{◌≡◌, true, [], ◌∷◌, ◌+◌, ◌/◌, ◌≤◌, ◌<◌, length};
+ghost use Rattle.requests.specs.declared.Kind.TheVariants.{Ask};
 ghost use Rattle.std.proofs.lemmas.List.Edits.{sets};
 ghost use Rattle.schedule.specs.File.{reading, file_entries};
 ghost use Rattle.schedule.specs.Direct.{is_accepted, part_entries};
@@ -42,8 +43,8 @@ fn put_store(out: &mut [u8], at: usize, p: u64, v: u64) -> usize
 
 // The line of a request.
 fn put_request(out: &mut [u8], at: usize, p: u64, request: Request) -> usize
-    requires { at + length (kind_line (Kind.Ask request) p) ≤ length out.old }
-    ensures { (result ≡ at + length (kind_line (Kind.Ask request) p)) × (out.new ≡ sets out.old at (kind_line (Kind.Ask request) p)) }
+    requires { at + length (kind_line (Ask request) p) ≤ length out.old }
+    ensures { (result ≡ at + length (kind_line (Ask request) p)) × (out.new ≡ sets out.old at (kind_line (Ask request) p)) }
 {
     match request {
         Request::Load => put_plain(out, at, 76, p),

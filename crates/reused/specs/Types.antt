@@ -1,12 +1,14 @@
 -- The types that the code declares, here and below, by their names.
+use Rattle.std.specs.Prelude.{Bool}
+use Rattle.requests.specs.declared.Entry as entry
+use Rattle.requests.specs.declared.Kind as kind
+use Rattle.requests.specs.declared.Request as request
 pub use Rattle.numbers.specs.declared.Process.{Process}
 pub use Rattle.reused.specs.declared.Announced.{Announced}
 pub use Rattle.reused.specs.declared.Answer.{Answer}
-pub use Rattle.reused.specs.declared.Entry.{Entry}
 pub use Rattle.reused.specs.declared.Kept.{Kept}
 pub use Rattle.reused.specs.declared.Kept.TheVariants.{Nothing, Holds}
-pub use Rattle.reused.specs.declared.Kind.{Kind}
-pub use Rattle.reused.specs.declared.Kind.TheVariants.{Ask, Step}
+pub use Rattle.requests.specs.declared.Kind.TheVariants.{Ask, Step}
 pub use Rattle.reused.specs.declared.Named.{Named}
 pub use Rattle.reused.specs.declared.Named.TheVariants.{Nobody, Names}
 pub use Rattle.reused.specs.declared.Outcome.{Outcome}
@@ -15,8 +17,7 @@ pub use Rattle.reused.specs.declared.Own.{Own}
 pub use Rattle.reused.specs.declared.Place.{Place}
 pub use Rattle.reused.specs.declared.Place.TheVariants.{Idle, Load1, Load2, Load3, Store1, Store2, Check1}
 pub use Rattle.reused.specs.declared.Point.{Point}
-pub use Rattle.reused.specs.declared.Request.{Request}
-pub use Rattle.reused.specs.declared.Request.TheVariants.{Load, Store, Check}
+pub use Rattle.requests.specs.declared.Request.TheVariants.{Load, Store, Check}
 pub use Rattle.reused.specs.declared.Requested.{Requested}
 pub use Rattle.reused.specs.declared.Started.{Started}
 pub use Rattle.reused.specs.declared.State.{State}
@@ -24,3 +25,13 @@ pub use Rattle.reused.specs.declared.Stepped.{Stepped}
 pub use Rattle.reused.specs.declared.Stored.{Stored}
 pub use Rattle.reused.specs.declared.Told.{Told}
 pub use Rattle.reused.specs.declared.Triple.{Triple}
+
+-- What is asked of the machine with reused numbers, whose word holds a bit.
+abbrev pub Request : Type 0
+Request = request.Request Bool
+
+abbrev pub Kind : Type 0
+Kind = kind.Kind Bool
+
+abbrev pub Entry : Type 0
+Entry = entry.Entry Bool

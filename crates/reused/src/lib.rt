@@ -104,26 +104,12 @@ pub enum Outcome {
     Unsound,
 }
 
-// What a request asks for.
-#[derive(Clone, Copy)]
-pub enum Request {
-    Load,
-    Store(bool),
-    Check,
-}
+// What is asked of the machine: its word holds a bit.
+pub type Request = requests::Request<bool>;
 
-// What an entry asks of its process: a call, or its next step.
-#[derive(Clone, Copy)]
-pub enum Kind {
-    Ask(Request),
-    Step,
-}
+pub type Kind = requests::Kind<bool>;
 
-#[derive(Clone, Copy)]
-pub struct Entry {
-    pub process: Process,
-    pub kind: Kind,
-}
+pub type Entry = requests::Entry<bool>;
 
 // What a request leaves of a process's row.
 #[derive(Clone, Copy)]

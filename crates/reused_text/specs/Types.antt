@@ -2,11 +2,11 @@
 pub use Rattle.numbers.specs.declared.Process.{Process}
 pub use Rattle.numbers.specs.declared.Version.{Version}
 pub use Rattle.run_log.specs.declared.Note.{Note}
-pub use Rattle.reused.specs.declared.Entry.{Entry}
+pub use Rattle.reused.specs.Types.{Entry}
 pub use Rattle.reused.specs.declared.Kept.{Kept}
 pub use Rattle.reused.specs.declared.Kept.TheVariants.{Nothing, Holds}
-pub use Rattle.reused.specs.declared.Kind.{Kind}
-pub use Rattle.reused.specs.declared.Kind.TheVariants.{Ask, Step}
+pub use Rattle.reused.specs.Types.{Kind}
+pub use Rattle.requests.specs.declared.Kind.TheVariants.{Ask, Step}
 pub use Rattle.reused.specs.declared.Named.{Named}
 pub use Rattle.reused.specs.declared.Outcome.{Outcome}
 pub use Rattle.reused.specs.declared.Outcome.TheVariants.{Taken, GoesOn, NotDone, Yes, No, NoProcess, CallOpen}
@@ -14,8 +14,8 @@ pub use Rattle.reused.specs.declared.Answer.{Answer}
 pub use Rattle.reused.specs.declared.Own.{Own}
 pub use Rattle.reused.specs.declared.Place.{Place}
 pub use Rattle.reused.specs.declared.Place.TheVariants.{Idle, Load1, Load2, Load3, Store1, Store2, Check1}
-pub use Rattle.reused.specs.declared.Request.{Request}
-pub use Rattle.reused.specs.declared.Request.TheVariants.{Load, Store, Check}
+pub use Rattle.reused.specs.Types.{Request}
+pub use Rattle.requests.specs.declared.Request.TheVariants.{Load, Store, Check}
 pub use Rattle.reused.specs.declared.Requested.{Requested}
 pub use Rattle.reused.specs.declared.Started.{Started}
 pub use Rattle.reused.specs.declared.State.{State}

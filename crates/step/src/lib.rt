@@ -66,27 +66,12 @@ pub enum Outcome {
     Unsound,
 }
 
-// What a request asks for.
-#[derive(Clone, Copy)]
-pub enum Request {
-    Load,
-    Store(u64),
-    Check,
-}
+// What is asked of the machine: its word holds numbers of 64 bits.
+pub type Request = requests::Request<u64>;
 
-// What an entry asks of its process: a call, or its next step.
-#[derive(Clone, Copy)]
-pub enum Kind {
-    Ask(Request),
-    Step,
-}
+pub type Kind = requests::Kind<u64>;
 
-// One entry, from the file to the machine.
-#[derive(Clone, Copy)]
-pub struct Entry {
-    pub process: Process,
-    pub kind: Kind,
-}
+pub type Entry = requests::Entry<u64>;
 
 // What a request leaves of a process's record.
 #[derive(Clone, Copy)]

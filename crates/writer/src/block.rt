@@ -1,5 +1,6 @@
 // The bytes of a block. Each piece is stored from a place of the lent part on, and the answer is the place behind it.
 ghost use Rattle.std.specs.Prelude.{◌≡◌, [], ◌∷◌, ◌+◌, ◌-◌, ◌*◌, ◌≤◌, ◌<◌, length, take, drop, replicate};
+ghost use Rattle.requests.specs.declared.Kind.TheVariants.{Ask};
 ghost use Rattle.std.proofs.lemmas.List.Edits.{sets};
 ghost use Rattle.numbers.specs.Numbers.{bytes_of};
 ghost use Rattle.writer.specs.Made.{kind_byte, kind_value, entry_made, entries_made, sealed, first_made, later_made};
@@ -46,7 +47,7 @@ fn put_zeros(b: &mut [u8], at: usize, end: usize)
 }
 
 fn request_byte(request: Request) -> u8
-    ensures { result ≡ kind_byte (Kind.Ask request) }
+    ensures { result ≡ kind_byte (Ask request) }
 {
     match request {
         Request::Load => 1,
@@ -56,7 +57,7 @@ fn request_byte(request: Request) -> u8
 }
 
 fn request_value(request: Request) -> u64
-    ensures { result ≡ kind_value (Kind.Ask request) }
+    ensures { result ≡ kind_value (Ask request) }
 {
     match request {
         Request::Load => 0,
