@@ -1,2 +1,2 @@
-pub mod Integers
 pub mod Reach
+pub mod Equality

@@ -1,33 +1,29 @@
 // What the log says of an outcome.
 ghost use Rattle.std.specs.Prelude.{◌≡◌};
-ghost use Rattle.step.specs.Steps.{says, told_of};
+ghost use Rattle.step.specs.Steps.{told_of};
 
 use crate::{Outcome, Told};
 
-fn tell_so(number: u8, value: u64) -> Told
-    ensures { result ≡ says number value }
-{
-    Told {
-        number: number,
-        value: value,
-    }
-}
+impl From<Outcome> for Told {
+    ghost from_gives = { λ outcome told. told ≡ told_of outcome };
 
-pub fn tell(outcome: Outcome) -> Told
-    ensures { result ≡ told_of outcome }
-{
-    match outcome {
-        Outcome::Taken => tell_so(0, 0),
-        Outcome::GoesOn => tell_so(1, 0),
-        Outcome::Value(v) => tell_so(2, v),
-        Outcome::Done => tell_so(3, 0),
-        Outcome::NotDone => tell_so(4, 0),
-        Outcome::Yes => tell_so(5, 0),
-        Outcome::No => tell_so(6, 0),
-        Outcome::NoProcess => tell_so(11, 0),
-        Outcome::CallOpen => tell_so(12, 0),
-        Outcome::UsedUp => tell_so(13, 0),
-        Outcome::NoCall => tell_so(14, 0),
-        Outcome::Unsound => tell_so(15, 0),
+    fn from(outcome: Outcome) -> Told
+        ensures { result ≡ told_of outcome }
+    {
+        let (number, value) = match outcome {
+            Outcome::Taken => (0, 0),
+            Outcome::GoesOn => (1, 0),
+            Outcome::Value(v) => (2, v),
+            Outcome::Done => (3, 0),
+            Outcome::NotDone => (4, 0),
+            Outcome::Yes => (5, 0),
+            Outcome::No => (6, 0),
+            Outcome::NoProcess => (11, 0),
+            Outcome::CallOpen => (12, 0),
+            Outcome::UsedUp => (13, 0),
+            Outcome::NoCall => (14, 0),
+            Outcome::Unsound => (15, 0),
+        };
+        Told { number, value }
     }
 }

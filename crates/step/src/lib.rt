@@ -4,15 +4,15 @@
 
 pub mod answer;
 pub mod call;
+mod leave;
 mod load;
 pub mod number;
-mod parts;
 mod store;
 
 use numbers::{Process, Sequence};
 
 // What X holds, and what a process keeps of it: whose store it was, and which of its stores.
-#[derive(Clone, Copy)]
+#[derive(Clone, Copy, PartialEq, Eq)]
 pub struct Tag {
     pub process: Process,
     pub number: Sequence,
@@ -78,6 +78,14 @@ pub type Entry = requests::Entry<u64>;
 pub struct Requested {
     pub own: Record,
     pub outcome: Outcome,
+}
+
+// The parts that a step of a process is given: X, the process's own record, and the row of one process.
+#[derive(Clone, Copy)]
+pub struct Parts {
+    pub x: Tag,
+    pub own: Record,
+    pub row: Row,
 }
 
 // What a step leaves of the parts that it was given.
