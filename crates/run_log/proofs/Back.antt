@@ -6,6 +6,7 @@ use mathlib.Core.List.{List, [], ◌∷◌, ◌++◌, append_assoc}
 use native.Mathlib.Nat.{mod-eq_of_lt}
 use native.Mathlib.Omega.{arith}
 use borrow.Author.Tests.{le-leb}
+use Rattle.std.specs.Prelude.{Some}
 use lib.ListN.{length, get_or, take, drop, length-append}
 use lib.Seq.{get_or-append_seam, drop_at, split_at, length-take-le}
 use Rattle.numbers.specs.Numbers.{bytes_of, number_at}
@@ -14,7 +15,7 @@ use Rattle.numbers.proofs.Bytes.{number_back}
 use Rattle.run_log.specs.Log.{head_of, record_of, records_of, log_length, head_in, note_in, notes_in}
 use Rattle.run_log.specs.Found.{log_of}
 use Rattle.run_log.specs.Found.{head_found, note_found}
-use Rattle.run_log.specs.Types.{Laid, Note, Written}
+use Rattle.run_log.specs.Types.{Note}
 use Rattle.run_log.proofs.Laws.{head_length, records_length, records_append, log_length_lem}
 
 pub note_back : (note : Note) (behind : List ℕ) → note.value < 2 ^ 64 → note_in (record_of note ++ behind) ≡ note
@@ -48,7 +49,7 @@ module _ (changes n : ℕ) (rest : List ℕ) where
       rw (append_assoc (head_of (length notes) changes n) (records_of notes) rest) (head_back (length notes) changes n (records_of notes ++ rest) h k)
 
   pub head_read : (notes : List Note) → length notes < 2 ^ 32 → changes < 2 ^ 32
-      → head_found (log_of changes n notes ++ rest) ≡ Laid (record { entries = length notes; changes = changes; n = n })
+      → head_found (log_of changes n notes ++ rest) ≡ Some (record { entries = length notes; changes = changes; n = n })
   unfolding head_found
   head_read notes h k =
       let there : 12 ≤ length (log_of changes n notes ++ rest) = rw (length-append, log_length_lem) (omega arith) in
@@ -77,14 +78,14 @@ module _ (changes n : ℕ) (rest : List ℕ) where
       ∙ among first then (get_or notes i none) h
 
   pub note_read : (notes : List Note) (i : ℕ) (none : Note) → i < length notes → (get_or notes i none).value < 2 ^ 64
-      → note_found (log_of changes n notes ++ rest) i ≡ Written (get_or notes i none)
+      → note_found (log_of changes n notes ++ rest) i ≡ Some (get_or notes i none)
   unfolding note_found
   note_read notes i none l h =
       let there : log_length (i + 1) ≤ length (log_of changes n notes ++ rest) = rw (length-append, log_length_lem) (omega arith) in
       rw (le-leb _ _ there, note_in_lem notes i none l h)
 
   pub note_among : (first then : List Note) (note : Note) → note.value < 2 ^ 64
-      → note_found (log_of changes n (first ++ note ∷ then) ++ rest) (length first) ≡ Written note
+      → note_found (log_of changes n (first ++ note ∷ then) ++ rest) (length first) ≡ Some note
   note_among first then note h =
       let e : get_or (first ++ note ∷ then) (length first) note ≡ note = get_or-append_seam first note then note in
       let l : length first < length (first ++ note ∷ then) = rw length-append (omega arith) in

@@ -8,7 +8,8 @@ use native.Mathlib.Omega.{arith}
 use borrow.Author.Tests.{le-leb, lt-leb}
 use lib.ListN.{length, take, drop, length-append, length-drop}
 use lib.Seq.{sets, sets-eq, length-take-le, take_all, take_at, drop_at, drop-append-add, drop-drop, drop-length}
-use Rattle.run_log.specs.Log.{head_of, record_of, records_of, laid, log_length}
+use Rattle.std.proofs.lemmas.List.{get_or-take}
+use Rattle.run_log.specs.Log.{head_of, record_of, records_of, laid, log_length, head_in, note_in}
 use Rattle.run_log.specs.Found.{log_of}
 use Rattle.run_log.specs.Types.{Note}
 
@@ -114,3 +115,12 @@ log_grown head notes note part now left i e k h so_far wrote =
     let next : log_length i + length (record_of note) ≡ log_length (i + 1) = rw record_length (omega arith) in
     grown done (record_of note) part now left (log_length i) at room so_far wrote
     ∙ rw (next, records_more notes note, append_assoc head (records_of notes) (record_of note))
+
+-- A head and a record are read from the first twelve bytes alone.
+pub head_front : (log : List ℕ) → head_in (take 12 log) ≡ head_in log
+unfolding head_in
+head_front log = grind (arith, get_or-take 12 log)
+
+pub note_front : (part : List ℕ) → note_in (take 12 part) ≡ note_in part
+unfolding note_in
+note_front part = grind (arith, get_or-take 12 part)

@@ -21,17 +21,3 @@ pub struct Note {
     pub mark: u8,
     pub value: u64,
 }
-
-// What reading a head finds: the head, or fewer bytes than it has.
-#[derive(Clone, Copy)]
-pub enum HeadFound {
-    Laid(Head),
-    NoHead,
-}
-
-// What reading a record finds: the record, or a log that ends before it does.
-#[derive(Clone, Copy)]
-pub enum NoteFound {
-    Written(Note),
-    NoNote,
-}

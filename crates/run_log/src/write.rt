@@ -1,64 +1,62 @@
 // The log's bytes, written into the part that is lent: the head at the front of the log, a record at the front of its rest.
-ghost use Rattle.std.specs.Prelude.{◌≡◌, ◌≤◌, length};
+ghost use Rattle.std.specs.Prelude.{◌≡◌};
 ghost use Rattle.run_log.specs.Log.{laid, head_of, record_of};
 
-use crate::Note;
-use numbers::Version;
+use crate::{Head, Note};
 
-// The twelve stores. The lent part has room for them.
-fn store_head(log: &mut [u8], entries: u32, changes: Version, n: u8)
-    requires { 12 ≤ length log.old }
-    ensures { log.new ≡ laid (head_of entries changes.0 n) log.old }
+// The twelve bytes of a head.
+#[tactic(auto, unfolding(crate::specs::Log::head_of))]
+fn head_bytes(head: Head) -> [u8; 12]
+    ensures { result ≡ head_of head.entries head.changes head.n }
 {
-    let times = changes.0;
-    log[0] = (entries % 256) as u8;
-    log[1] = (entries / 256 % 256) as u8;
-    log[2] = (entries / 256 / 256 % 256) as u8;
-    log[3] = (entries / 256 / 256 / 256 % 256) as u8;
-    log[4] = (times % 256) as u8;
-    log[5] = (times / 256 % 256) as u8;
-    log[6] = (times / 256 / 256 % 256) as u8;
-    log[7] = (times / 256 / 256 / 256 % 256) as u8;
-    log[8] = n;
-    log[9] = 0;
-    log[10] = 0;
-    log[11] = 0;
+    let e = head.entries.to_le_bytes();
+    let c = head.changes.to_le_bytes();
+    [
+        e[0], e[1], e[2], e[3], c[0], c[1], c[2], c[3], head.n, 0, 0, 0,
+    ]
 }
 
-// Lays the head at the front of the log. A log shorter than a head stays as it was.
-pub fn lay_head(log: &mut [u8], entries: u32, changes: Version, n: u8)
-    ensures { log.new ≡ laid (head_of entries changes.0 n) log.old }
+// The twelve bytes of a record.
+fn record_bytes(note: Note) -> [u8; 12]
+    ensures { result ≡ record_of note }
 {
-    if 12 <= log.len() {
-        store_head(log, entries, changes, n);
+    let v = note.value.to_le_bytes();
+    [
+        note.outcome,
+        note.process,
+        note.steps,
+        note.mark,
+        v[0],
+        v[1],
+        v[2],
+        v[3],
+        v[4],
+        v[5],
+        v[6],
+        v[7],
+    ]
+}
+
+// Lays twelve bytes at the front of a part. A part that is too short for them stays as it was.
+#[tactic(auto, unfolding(crate::specs::Log::laid))]
+fn lay(part: &mut [u8], bytes: [u8; 12])
+    ensures { part.new ≡ laid bytes part.old }
+{
+    if let Some(front) = part.first_chunk_mut::<12>() {
+        *front = bytes;
     }
 }
 
-// The twelve stores. The lent part has room for them.
-fn store_record(rest: &mut [u8], note: Note)
-    requires { 12 ≤ length rest.old }
-    ensures { rest.new ≡ laid (record_of note) rest.old }
+// Lays the head at the front of the log. A log shorter than a head stays as it was.
+pub fn lay_head(log: &mut [u8], head: Head)
+    ensures { log.new ≡ laid (head_of head.entries head.changes head.n) log.old }
 {
-    let value = note.value;
-    rest[0] = note.outcome;
-    rest[1] = note.process;
-    rest[2] = note.steps;
-    rest[3] = note.mark;
-    rest[4] = (value % 256) as u8;
-    rest[5] = (value / 256 % 256) as u8;
-    rest[6] = (value / 256 / 256 % 256) as u8;
-    rest[7] = (value / 256 / 256 / 256 % 256) as u8;
-    rest[8] = (value / 256 / 256 / 256 / 256 % 256) as u8;
-    rest[9] = (value / 256 / 256 / 256 / 256 / 256 % 256) as u8;
-    rest[10] = (value / 256 / 256 / 256 / 256 / 256 / 256 % 256) as u8;
-    rest[11] = (value / 256 / 256 / 256 / 256 / 256 / 256 / 256 % 256) as u8;
+    lay(log, head_bytes(head));
 }
 
 // Writes a record at the front of the rest of the log. A rest shorter than a record stays as it was.
 pub fn write_record(rest: &mut [u8], note: Note)
     ensures { rest.new ≡ laid (record_of note) rest.old }
 {
-    if 12 <= rest.len() {
-        store_record(rest, note);
-    }
+    lay(rest, record_bytes(note));
 }
