@@ -2,18 +2,17 @@
 ghost use Rattle.std.specs.Prelude.{◌≡◌};
 ghost use Rattle.run_log.specs.Log.{laid, head_of, record_of};
 
-use crate::{Head, Note};
+use crate::Note;
+use numbers::Version;
 
 // The twelve bytes of a head.
 #[tactic(auto, unfolding(crate::specs::Log::head_of))]
-fn head_bytes(head: Head) -> [u8; 12]
-    ensures { result ≡ head_of head.entries head.changes head.n }
+fn head_bytes(entries: u32, changes: Version, n: u8) -> [u8; 12]
+    ensures { result ≡ head_of entries changes.0 n }
 {
-    let e = head.entries.to_le_bytes();
-    let c = head.changes.to_le_bytes();
-    [
-        e[0], e[1], e[2], e[3], c[0], c[1], c[2], c[3], head.n, 0, 0, 0,
-    ]
+    let e = entries.to_le_bytes();
+    let c = changes.0.to_le_bytes();
+    [e[0], e[1], e[2], e[3], c[0], c[1], c[2], c[3], n, 0, 0, 0]
 }
 
 // The twelve bytes of a record.
@@ -48,10 +47,10 @@ fn lay(part: &mut [u8], bytes: [u8; 12])
 }
 
 // Lays the head at the front of the log. A log shorter than a head stays as it was.
-pub fn lay_head(log: &mut [u8], head: Head)
-    ensures { log.new ≡ laid (head_of head.entries head.changes head.n) log.old }
+pub fn lay_head(log: &mut [u8], entries: u32, changes: Version, n: u8)
+    ensures { log.new ≡ laid (head_of entries changes.0 n) log.old }
 {
-    lay(log, head_bytes(head));
+    lay(log, head_bytes(entries, changes, n));
 }
 
 // Writes a record at the front of the rest of the log. A rest shorter than a record stays as it was.
