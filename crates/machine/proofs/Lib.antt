@@ -10,3 +10,4 @@ pub mod Numbers
 pub mod PartsOfRun
 pub mod Reached
 pub mod RunsAToL
+pub mod Starts

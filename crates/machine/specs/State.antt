@@ -2,7 +2,8 @@
 use Rattle.std.specs.Prelude.{ℕ, ◌+◌, Bool, not, ◌&&◌, ◌||◌, cond, [], ◌∷◌, eqb, leb, ltb, pos, ℤ, negsuc, get_or, replicate}
 use Rattle.numbers.specs.Numbers.{in_range, range_number, all_below}
 use Rattle.step.specs.Steps.{is_old, storing}
-use Rattle.machine.specs.Types.{Sequence, Tag, Row, Record, Idle, State, Start, InRange, OutOfRange, Started}
+use Rattle.numbers.specs.Refusals.{number_in}
+use Rattle.machine.specs.Types.{Sequence, Tag, Row, Record, Idle, State, Started}
 
 -- past the 16th there is no row and no record; these stand for them
 abbrev pub no_tag : Tag
@@ -78,12 +79,17 @@ zero_state =
       records = replicate 16 (first_record 0);
     }
 
--- Document 02, P2: "A direct start gives 16 or 17", and document 01: ".. and a state of zeros, all idle"
-unfoldable pub start_of : ℕ → Sequence → ℕ → Started
-start_of n s v =
-    cond (eqb (range_number n s) 0) (record { state = first_state n s v; start = InRange })
-    (record { state = zero_state; start = OutOfRange (range_number n s) })
+-- What a start gives: a state, and the number that turns it away, or 0
+pub record StartGiven : Type 0 where
+  pub state : State
+  pub number : ℕ
 
-abbrev pub start_number : Start → ℕ
-start_number InRange = 0
-start_number (OutOfRange number) = number
+-- Document 02, P2: "A direct start gives 16 or 17", and document 01: ".. and a state of zeros, all idle"
+unfoldable pub start_of : ℕ → Sequence → ℕ → StartGiven
+start_of n s v =
+    cond (eqb (range_number n s) 0) (record { state = first_state n s v; number = 0 })
+    (record { state = zero_state; number = range_number n s })
+
+-- what the code's start says, in the documents' numbers
+abbrev pub started_as : Started → StartGiven
+started_as r = record { state = r.state; number = number_in r.start }

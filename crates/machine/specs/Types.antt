@@ -16,7 +16,5 @@ pub use Rattle.step.specs.declared.Row.{Row}
 pub use Rattle.step.specs.declared.Stepped.{Stepped}
 pub use Rattle.step.specs.declared.Tag.{Tag}
 pub use Rattle.machine.specs.declared.Answer.{Answer}
-pub use Rattle.machine.specs.declared.Start.{Start}
-pub use Rattle.machine.specs.declared.Start.TheVariants.{InRange, OutOfRange}
 pub use Rattle.machine.specs.declared.Started.{Started}
 pub use Rattle.machine.specs.declared.State.{State}

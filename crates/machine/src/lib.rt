@@ -2,7 +2,7 @@
 // state whatever; what is unsound is turned away before anything else is looked at.
 #![tactic(auto)]
 
-use numbers::Sequence;
+use numbers::{Refusal, Sequence};
 use step::{Outcome, Record, Row, Tag};
 
 pub mod entry;
@@ -26,15 +26,9 @@ pub struct Answer {
     pub outcome: Outcome,
 }
 
-// Whether a start was taken, or turned away because N or S is out of range, and by which number.
-#[derive(Clone, Copy)]
-pub enum Start {
-    InRange,
-    OutOfRange(usize),
-}
-
+// What a start gives, and whether it was taken or turned away because N or S is out of range.
 #[derive(Clone, Copy)]
 pub struct Started {
     pub state: State,
-    pub start: Start,
+    pub start: Result<(), Refusal>,
 }

@@ -7,15 +7,13 @@ ghost use Rattle.machine.specs.Entry.{row_given, with_parts, parts_after};
 ghost use Rattle.machine.specs.Parts.{seat_of, played_parts, request_by, kind_by, steps_ahead};
 
 use numbers::{Process, Sequence};
-use step::call::{own_steps, reached_row, request, step};
-use step::{Kind, Outcome, Place, Record, Request, Row, Stepped, Tag};
+use step::{Kind, Outcome, Parts, Place, Record, Request, Requested, Stepped};
 
 // Whose record an entry of process p is given: p's, and for a process that is not there the first.
 pub fn seat_of(n: usize, p: Process) -> Process
     ensures { result ≡ seat_of n p }
 {
-    let i = p.0;
-    if i < n { p } else { Process(0) }
+    if p.0 < n { p } else { Process(0) }
 }
 
 // Whose row it is given in a direct call: a step's is the one that it reaches, a request's its own.
@@ -24,38 +22,24 @@ pub(crate) fn row_given(p: Process, own: Record, kind: Kind) -> Process
 {
     match kind {
         Kind::Ask(_) => p,
-        Kind::Step => reached_row(p, own),
+        Kind::Step => own.reached_row(p),
     }
 }
 
-fn ask_parts(s: Sequence, x: Tag, own: Record, row: Row, wanted: Request) -> Stepped
-    ensures { result ≡ with_parts x row (request_of s own wanted) }
+fn ask_parts(s: Sequence, parts: Parts, wanted: Request) -> Stepped
+    ensures { result ≡ with_parts parts.x parts.row (request_of s parts.own wanted) }
 {
-    let r = request(s, own, wanted);
-    let left = r.own;
-    let outcome = r.outcome;
-    Stepped {
-        x: x,
-        own: left,
-        row: row,
-        outcome: outcome,
-    }
+    let Requested { own, outcome } = parts.own.request(s, wanted);
+    Parts { own, ..parts }.as_was(outcome)
 }
 
 // What an entry of p leaves of X, its record and the row that it is given.
-pub(crate) fn parts_after(
-    s: Sequence,
-    p: Process,
-    x: Tag,
-    own: Record,
-    row: Row,
-    kind: Kind,
-) -> Stepped
-    ensures { result ≡ parts_after s p x own row kind }
+pub(crate) fn parts_after(s: Sequence, p: Process, parts: Parts, kind: Kind) -> Stepped
+    ensures { result ≡ parts_after s p parts.x parts.own parts.row kind }
 {
     match kind {
-        Kind::Ask(wanted) => ask_parts(s, x, own, row, wanted),
-        Kind::Step => step(p, x, own, row),
+        Kind::Ask(wanted) => ask_parts(s, parts, wanted),
+        Kind::Step => parts.step(p),
     }
 }
 
@@ -63,51 +47,33 @@ pub(crate) fn parts_after(
 fn request_by(code: u8, value: u64) -> Request
     ensures { result ≡ request_by code value }
 {
-    if code == 1 {
-        return Request::Load;
+    match code {
+        1 => Request::Load,
+        2 => Request::Store(value),
+        _ => Request::Check,
     }
-    if code == 2 {
-        return Request::Store(value);
-    }
-    Request::Check
 }
 
 // What an entry of p leaves, asked as a file asks it. A step is told from a request by the byte, with no `Kind` in between.
-fn parts_by(s: Sequence, p: Process, x: Tag, own: Record, row: Row, code: u8, value: u64) -> Stepped
-    ensures { result ≡ parts_after s p x own row (kind_by code value) }
+fn parts_by(s: Sequence, p: Process, parts: Parts, code: u8, value: u64) -> Stepped
+    ensures { result ≡ parts_after s p parts.x parts.own parts.row (kind_by code value) }
 {
     if code == 4 {
-        step(p, x, own, row)
+        parts.step(p)
     } else {
-        let wanted = request_by(code, value);
-        ask_parts(s, x, own, row, wanted)
+        ask_parts(s, parts, request_by(code, value))
     }
 }
 
 // An entry of process p as a file asks it, given X, its record and its row.
 #[tactic(auto, unfolding(crate::specs::Parts::played_parts))]
-pub fn play_coded(
-    n: usize,
-    s: Sequence,
-    p: Process,
-    x: Tag,
-    own: Record,
-    row: Row,
-    code: u8,
-    value: u64,
-) -> Stepped
-    ensures { result ≡ played_parts n s p x own row (kind_by code value) }
+pub fn play_coded(n: usize, s: Sequence, p: Process, parts: Parts, code: u8, value: u64) -> Stepped
+    ensures { result ≡ played_parts n s p parts.x parts.own parts.row (kind_by code value) }
 {
-    let i = p.0;
-    if i < n {
-        parts_by(s, p, x, own, row, code, value)
+    if p.0 < n {
+        parts_by(s, p, parts, code, value)
     } else {
-        Stepped {
-            x: x,
-            own: own,
-            row: row,
-            outcome: Outcome::NoProcess,
-        }
+        parts.as_was(Outcome::NoProcess)
     }
 }
 
@@ -115,5 +81,5 @@ pub fn play_coded(
 pub fn steps_ahead(place: Place, code: u8) -> u8
     ensures { result ≡ steps_ahead place code }
 {
-    if code == 4 { own_steps(place) } else { 0 }
+    if code == 4 { place.own_steps() } else { 0 }
 }
