@@ -1,6 +1,6 @@
 -- The whole run of an accepted file: its start is ready, its count fits, and head, records and the rest of the log come together.
 use Prim.Native.Nat.{ℕ, ◌+◌, ◌-◌, ◌*◌, ◌≤◌}
-use mathlib.Core.Path.{◌≡◌, sym, ◌∙◌}
+use mathlib.Core.Path.{◌≡◌, sym, ap, ◌∙◌}
 use mathlib.Core.Bool.{true}
 use mathlib.Core.List.{List, ◌++◌, map}
 use native.Mathlib.Omega.{arith}
@@ -8,7 +8,7 @@ use lib.ListN.{length, take, drop, length-append, length-drop}
 use lib.Seq.{take_at, drop_at, drop-drop}
 use Rattle.numbers.specs.Numbers.{in_range}
 use Rattle.numbers.proofs.First.{range_zero}
-use Rattle.machine.specs.State.{first_state, start_of}
+use Rattle.machine.specs.State.{StartGiven, first_state, start_of, started_as}
 use Rattle.machine.specs.Frame.{Ready}
 use Rattle.machine.specs.Run.{EntryNote, notes, change_count}
 use Rattle.bench.specs.Types.{Started, Accepted, Played}
@@ -47,9 +47,12 @@ module _ (f : List ℕ) (n s v c : ℕ) (is : reading f ≡ Accepted n s v c) wh
   ready = rw start_is (ready_start n (record { 0 = s }) v range)
 
   -- what the records' writer is given
-  module _ (started : Started) (begun : started ≡ start_of n (record { 0 = s }) v) where
+  module _ (started : Started) (begun : started_as started ≡ start_of n (record { 0 = s }) v) where
+    began : started.state ≡ start_state n s v
+    began = ap (λ (g : StartGiven). g.state) begun
+
     pub start_ready : Ready started.state
-    start_ready = rw begun ready
+    start_ready = rw began ready
 
     -- the count stays within four bytes
     abbrev from : Played
@@ -73,7 +76,7 @@ module _ (f : List ℕ) (n s v c : ℕ) (is : reading f ≡ Accepted n s v c) wh
           (writes : back ≡ records_from from (file_entries f) (take (length first - 12) (drop 12 first))) where
         pub last_is : played.state ≡ last_state f n s v
         unfolding played_from last_state
-        last_is = rw (goes, begun)
+        last_is = rw (goes, began)
 
         abbrev behind : List ℕ
         behind = records_of (map in_log (notes_of f n s v)) ++ drop (12 + 12 * length (file_entries f)) log
@@ -82,7 +85,7 @@ module _ (f : List ℕ) (n s v c : ℕ) (is : reading f ≡ Accepted n s v c) wh
         unfolding records_from notes_of
         records_there =
             tail_back first back 12
-            ∙ rw (writes, tail_given, head_there, take_at (head_of c 0 n) (drop 12 log) 12 (head_length c 0 n), drop_at (head_of c 0 n) (drop 12 log) 12 (head_length c 0 n), drop-drop, begun)
+            ∙ rw (writes, tail_given, head_there, take_at (head_of c 0 n) (drop 12 log) 12 (head_length c 0 n), drop_at (head_of c 0 n) (drop 12 log) 12 (head_length c 0 n), drop-drop, began)
 
         pub log_is : (last : List ℕ) → last ≡ laid (head_of c played.changes.0 n) (take 12 first ++ (back ++ drop (length first - 12) (drop 12 first)))
             → last ≡ written (notes_of f n s v) n log
@@ -109,4 +112,4 @@ module _ (f : List ℕ) (n s v c : ℕ) (is : reading f ≡ Accepted n s v c) wh
             none = omega arith
 
             count_is : played.changes.0 ≡ change_count ws
-            count_is = rw (goes, begun) none
+            count_is = rw (goes, began) none

@@ -12,7 +12,6 @@ pub use Rattle.requests.specs.declared.Request.TheVariants.{Load, Store, Check}
 pub use Rattle.step.specs.declared.Stepped.{Stepped}
 pub use Rattle.step.specs.declared.Tag.{Tag}
 pub use Rattle.machine.specs.declared.Answer.{Answer}
-pub use Rattle.machine.specs.declared.Start.{Start}
 pub use Rattle.machine.specs.declared.Started.{Started}
 pub use Rattle.machine.specs.declared.State.{State}
 pub use Rattle.schedule.specs.declared.Fields.{Fields}

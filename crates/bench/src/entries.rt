@@ -12,7 +12,7 @@ use machine::parts::{play_coded, seat_of, steps_ahead};
 use numbers::Process;
 use run_log::write::write_record;
 use schedule::{block_of, fields_at, used_entries};
-use step::call::{fresh, reached_row};
+use step::Parts;
 
 // Plays all entries of an accepted file and writes their records into the front of the rest of the log. Both loops stand in one function,
 // with the state taken apart into its own arrays and put together at the end: so it runs at C's pace (docs/SPEED.md). An entry is given
@@ -45,14 +45,14 @@ pub(crate) fn play_entries(file: &[u8], rest: &mut [u8], from: Played) -> Played
             let seat = seat_of(n, p);
             let a = seat.0;
             let found = records[a];
-            let own = fresh(found);
-            let reached = reached_row(seat, own);
+            let own = found.fresh();
+            let reached = own.reached_row(seat);
             let q = reached.0;
             let row = rows[q];
             // The own steps are counted before the step, by its place: behind it the count would be one more jump at every place.
             let place = own.place;
             let ahead = steps_ahead(place, code);
-            let m = play_coded(n, s, p, x, own, row, code, value);
+            let m = play_coded(n, s, p, Parts { x, own, row }, code, value);
             let now = m.x;
             let left = m.own;
             let kept = left.kept;

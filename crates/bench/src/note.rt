@@ -6,18 +6,18 @@ ghost use Rattle.bench.specs.Play.{record_from};
 
 use numbers::Version;
 use run_log::Note;
-use step::answer::tell;
-use step::number::same_tag;
-use step::{Outcome, Tag};
+use step::{Outcome, Tag, Told};
 
 // The mark beside the number of an outcome: of an answered load, whether X is still the kept tag. Both are taken after the entry.
 fn mark_by(number: u8, x: Tag, kept: Tag) -> u8
     ensures { result ≡ mark_by number x kept }
 {
-    if number == 2 {
-        if same_tag(x, kept) { 1 } else { 2 }
-    } else {
+    if number != 2 {
         0
+    } else if x == kept {
+        1
+    } else {
+        2
     }
 }
 
@@ -33,17 +33,13 @@ fn steps_told(number: u8, ahead: u8) -> u8
 pub fn note_of(process: u8, ahead: u8, outcome: Outcome, x: Tag, kept: Tag) -> Note
     ensures { result ≡ record_from process ahead outcome x kept }
 {
-    let told = tell(outcome);
-    let number = told.number;
-    let steps = steps_told(number, ahead);
-    let mark = mark_by(number, x, kept);
-    let value = told.value;
+    let Told { number, value } = Told::from(outcome);
     Note {
         outcome: number,
-        process: process,
-        steps: steps,
-        mark: mark,
-        value: value,
+        process,
+        steps: steps_told(number, ahead),
+        mark: mark_by(number, x, kept),
+        value,
     }
 }
 
@@ -52,10 +48,9 @@ pub(crate) fn count(changes: Version, before: Tag, after: Tag) -> Version
     requires { changes.0 < 4294967295 }
     ensures { result.0 ≡ changes.0 + cond (not (same_tag before after)) 1 0 }
 {
-    let so_far = changes.0;
-    if same_tag(before, after) {
-        return Version(so_far);
+    if before == after {
+        changes
+    } else {
+        Version(changes.0 + 1)
     }
-    let more = so_far + 1;
-    Version(more)
 }

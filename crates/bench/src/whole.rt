@@ -7,7 +7,6 @@ ghost use Rattle.run_log.specs.Log.{log_length};
 use crate::entries::play_entries;
 use crate::{Played, Ran};
 use machine::State;
-use machine::opening::{start, zero_state};
 use numbers::{Sequence, Version};
 use run_log::write::lay_head;
 use schedule::{Reading, read_file};
@@ -15,7 +14,7 @@ use schedule::{Reading, read_file};
 fn turn_away(number: usize, block: usize, place: usize) -> Ran
     ensures { result ≡ ran_not number block place }
 {
-    let state = zero_state();
+    let state = State::zero();
     Ran {
         number: number,
         block: block,
@@ -31,7 +30,7 @@ fn run_entries(file: &[u8], log: &mut [u8], n: u8, s: u64, v: u64, entries: usiz
     ensures { (result ≡ last_state file.now n s v) × (log.new ≡ written (notes_of file.now n s v) n log.old) }
 {
     let size = n as usize;
-    let started = start(size, Sequence(s), v);
+    let started = State::start(size, Sequence(s), v);
     let state = started.state;
     let from = Played {
         state: state,
