@@ -1,75 +1,61 @@
 // The blocks after block 0, and the entries in them.
-ghost use Rattle.std.specs.Prelude.{◌≡◌, ◌≤◌, ◌<◌, length};
-ghost use Rattle.schedule.specs.File.{entry_fine, entries_fine, later_fine, later_number, no_entry, meant};
+ghost use Rattle.std.specs.Prelude.{◌≡◌, ◌≤◌, ◌<◌};
+ghost use Rattle.schedule.specs.File.{entry_clear, entry_fine, count, entries_fine, rest_clear, later_fine, later_number, no_entry, meant};
 ghost use Rattle.schedule.specs.Direct.{later_of, entry_at, fields_of, no_fields, fields_at, used_part, accepted_part};
 
 use crate::bytes::{clear, eight, two};
 use crate::check::number_of;
 use crate::{Block, Fields};
-use numbers::{Process, both, either, number_unless, wide};
+use numbers::{Process, number_unless};
 use step::{Entry, Kind, Request};
 
-// Whether an entry has a kind that there is, and no stray byte. The bytes that should be zero are read as one number.
-fn entry_fine(e: &[u8]) -> bool
-    requires { length e.now ≡ 12 }
-    ensures { result ≡ entry_fine e.now }
+// Whether an entry has no stray byte. The bytes that should be zero are read as one number.
+fn entry_clear(e: &[u8; 12]) -> bool
+    ensures { result ≡ entry_clear e.now }
 {
-    let kind = e[0];
-    let low = 1 <= kind;
-    let high = kind <= 4;
-    let gap = two(e, 2);
-    let closed = gap == 0;
-    let store = kind == 2;
-    let value = eight(e, 4);
-    let none = value == 0;
-    both(both(low, high), both(closed, either(store, none)))
+    two(e, 2) == 0 && (e[0] == 2 || eight(e, 4) == 0)
 }
 
-// Whether the first `c` entries of a block are as they should be.
-fn entries_fine(b: &[u8], c: usize) -> bool
-    requires { (length b.now ≡ 512) × (c ≤ 42) }
+// Whether an entry has a kind that there is, and no stray byte.
+fn entry_fine(e: &[u8; 12]) -> bool
+    ensures { result ≡ entry_fine e.now }
+{
+    matches!(e[0], 1..=4) && entry_clear(e)
+}
+
+// Whether the entries of a block are as they should be.
+fn entries_fine(b: &[u8; 512], c: usize) -> bool
+    requires { c ≤ 42 }
     ensures { result ≡ entries_fine b.now c }
 {
-    let mut fine = true;
-    let mut j = 0;
-    while j < c {
-        let at = 4 + 12 * j;
-        let end = at + 12;
-        let e = &b[at..end];
-        let this = entry_fine(e);
-        fine = both(fine, this);
-        j = j + 1;
-    }
-    fine
+    b[4..4 + 12 * c].as_chunks().0.iter().all(entry_fine)
+}
+
+// Whether a block with `c` entries has no stray byte outside them.
+fn rest_clear(b: &[u8; 512], c: usize) -> bool
+    requires { (c ≡ count b.now) × (c ≤ 42) }
+    ensures { result ≡ rest_clear b.now }
+{
+    b[3] == 0 && clear(&b[4 + 12 * c..510])
 }
 
 // Whether a later block is as it should be, its check and its place apart.
-fn later_fine(b: &[u8]) -> bool
-    requires { length b.now ≡ 512 }
+fn later_fine(b: &[u8; 512]) -> bool
     ensures { result ≡ later_fine b.now }
 {
-    let c = wide(b[2]) as usize;
+    let c = usize::from(b[2]);
     if 42 < c {
         return false;
     }
-    let entries = entries_fine(b, c);
-    let x = b[3];
-    let third = x == 0;
-    let at = 4 + 12 * c;
-    let n = 510 - at;
-    let rest = clear(b, at, n);
-    both(entries, both(third, rest))
+    entries_fine(b, c) && rest_clear(b, c)
 }
 
 // The number that refuses block k, or 0.
 #[tactic(auto, unfolding(crate::specs::File::later_number))]
-pub(crate) fn later_number(b: &[u8], k: usize) -> usize
-    requires { length b.now ≡ 512 }
+pub(crate) fn later_number(b: &[u8; 512], k: usize) -> usize
     ensures { result ≡ later_number b.now k }
 {
-    let fine = later_fine(b);
-    let rest = number_unless(fine, 5);
-    number_of(b, k, rest)
+    number_of(b, k, number_unless(later_fine(b), 5))
 }
 
 // Block k, where k is not 0.
@@ -77,16 +63,14 @@ pub(crate) fn later_number(b: &[u8], k: usize) -> usize
 pub fn read_block(b: &[u8], k: usize) -> Block
     ensures { result ≡ later_of b.now k }
 {
-    let len = b.len();
-    if len != 512 {
+    let Ok(b) = <&[u8; 512]>::try_from(b) else {
         return Block::BlockRefused(1);
-    }
+    };
     let number = later_number(b, k);
     if number != 0 {
         return Block::BlockRefused(number);
     }
-    let c = wide(b[2]) as usize;
-    Block::Entries(c)
+    Block::Entries(usize::from(b[2]))
 }
 
 // The part of a block with the entries that its count speaks of. No test is made of them: this is for a block that is known
@@ -95,14 +79,12 @@ pub fn read_block(b: &[u8], k: usize) -> Block
 pub fn used_entries(b: &[u8]) -> &[u8]
     ensures { result.now ≡ used_part b.now }
 {
-    let len = b.len();
-    if len < 4 {
-        return &b[0..0];
+    if b.len() < 4 {
+        return &b[..0];
     }
-    let c = wide(b[2]) as usize;
-    let end = 4 + 12 * c;
-    if len < end {
-        return &b[0..0];
+    let end = 4 + 12 * usize::from(b[2]);
+    if b.len() < end {
+        return &b[..0];
     }
     &b[4..end]
 }
@@ -112,71 +94,54 @@ pub fn used_entries(b: &[u8]) -> &[u8]
 pub fn entries_of(b: &[u8], k: usize) -> &[u8]
     ensures { result.now ≡ accepted_part b.now k }
 {
-    let len = b.len();
-    if len != 512 {
-        return &b[0..0];
+    match <&[u8; 512]>::try_from(b) {
+        Ok(block) => {
+            if later_number(block, k) != 0 {
+                return &b[..0];
+            }
+            used_entries(b)
+        }
+        Err(_) => &b[..0],
     }
-    let refusal = later_number(b, k);
-    if refusal != 0 {
-        return &b[0..0];
-    }
-    used_entries(b)
 }
 
 // The answer where no entry stands.
 fn no_entry() -> Entry
     ensures { result ≡ no_entry }
 {
-    let process = Process(255);
-    let step = Kind::Step;
     Entry {
-        process: process,
-        kind: step,
+        process: Process(255),
+        kind: Kind::Step,
+    }
+}
+
+// What an entry's twelve bytes say, with no test of the kind.
+fn fields(e: &[u8; 12]) -> Fields
+    ensures { result ≡ fields_of e.now }
+{
+    Fields {
+        kind: e[0],
+        process: e[1],
+        value: eight(e, 4),
     }
 }
 
 // What an entry's twelve bytes ask.
 #[tactic(auto, unfolding(crate::specs::File::meant))]
-fn meaning(e: &[u8]) -> Entry
-    requires { length e.now ≡ 12 }
+fn meaning(e: &[u8; 12]) -> Entry
     ensures { (result ≡ meant e.now) × (result.process.0 < 256) }
 {
-    let kind = e[0];
-    let p = wide(e[1]) as usize;
-    let value = eight(e, 4);
-    let process = Process(p);
-    if kind == 1 {
-        let request = Request::Load;
-        let load = Kind::Ask(request);
-        return Entry {
-            process: process,
-            kind: load,
-        };
+    let kind = match e[0] {
+        1 => Kind::Ask(Request::Load),
+        2 => Kind::Ask(Request::Store(eight(e, 4))),
+        3 => Kind::Ask(Request::Check),
+        4 => Kind::Step,
+        _ => return no_entry(),
+    };
+    Entry {
+        process: Process(usize::from(e[1])),
+        kind,
     }
-    if kind == 2 {
-        let request = Request::Store(value);
-        let store = Kind::Ask(request);
-        return Entry {
-            process: process,
-            kind: store,
-        };
-    }
-    if kind == 3 {
-        let request = Request::Check;
-        let check = Kind::Ask(request);
-        return Entry {
-            process: process,
-            kind: check,
-        };
-    }
-    if kind == 4 {
-        let step = Kind::Step;
-        return Entry {
-            process: process,
-            kind: step,
-        };
-    }
-    no_entry()
 }
 
 // Entry j of a part that holds entries.
@@ -184,14 +149,9 @@ fn meaning(e: &[u8]) -> Entry
 pub fn entry_at(part: &[u8], j: usize) -> Entry
     ensures { (result ≡ entry_at part.now j) × (result.process.0 < 256) }
 {
-    let n = part.len() / 12;
-    if j < n {
-        let at = 12 * j;
-        let end = at + 12;
-        let e = &part[at..end];
-        meaning(e)
-    } else {
-        no_entry()
+    match part.as_chunks().0.get(j) {
+        Some(e) => meaning(e),
+        None => no_entry(),
     }
 }
 
@@ -206,33 +166,13 @@ fn no_fields() -> Fields
     }
 }
 
-// What an entry's twelve bytes say, with no test of the kind.
-fn fields(e: &[u8]) -> Fields
-    requires { length e.now ≡ 12 }
-    ensures { result ≡ fields_of e.now }
-{
-    let kind = e[0];
-    let process = e[1];
-    let value = eight(e, 4);
-    Fields {
-        kind: kind,
-        process: process,
-        value: value,
-    }
-}
-
 // The fields of entry j of a part that holds entries.
 #[tactic(auto, unfolding(crate::specs::Direct::fields_at))]
 pub fn fields_at(part: &[u8], j: usize) -> Fields
     ensures { result ≡ fields_at part.now j }
 {
-    let n = part.len() / 12;
-    if j < n {
-        let start = 12 * j;
-        let end = start + 12;
-        let e = &part[start..end];
-        fields(e)
-    } else {
-        no_fields()
+    match part.as_chunks().0.get(j) {
+        Some(e) => fields(e),
+        None => no_fields(),
     }
 }

@@ -1,5 +1,4 @@
--- So many blocks were passed, the entries counted are those of the blocks passed, and what the definition says from block 1 on it still
--- says from the next block on.
+-- The entries counted are those of the blocks passed, and what the definition says from block 1 on it still says from the next block on.
 use Rattle.std.proofs.Common.{List, ℕ, ◌≡◌, ◌+◌, ◌-◌, ◌*◌, ◌≤◌, length}
 use Rattle.schedule.specs.File.{entries_to, in_turn}
 use Rattle.schedule.specs.Types.{Reading, Accepted}
@@ -9,14 +8,10 @@ use Rattle.schedule.proofs.file.read_later.Given as goal
 abbrev pub answer : List ℕ → ℕ → ℕ → ℕ → ℕ → Reading
 answer file after n s v = Accepted n s v (length (entries_to file after))
 
-abbrev pub invariant-loop-done : goal.invariant-loop-done
-invariant-loop-done l = record {
-  within : l.done ≤ l.after;
-  bounded : l.entries ≤ 255 * l.done;
-  counted : l.entries ≡ length (entries_to l.file l.done);
+abbrev pub invariant-loop-i : goal.invariant-loop-i
+invariant-loop-i l = record {
+  bounded : l.entries ≤ 255 * l.i;
+  counted : l.entries ≡ length (entries_to l.file l.i);
   turn : in_turn l.file 1 l.after (answer l.file l.after l.n l.s l.v)
-      ≡ in_turn l.file (l.done + 1) (l.after - l.done) (answer l.file l.after l.n l.s l.v);
+      ≡ in_turn l.file (l.i + 1) (l.after - l.i) (answer l.file l.after l.n l.s l.v);
 }
-
-abbrev pub decreases-loop-done : goal.decreases-loop-done
-decreases-loop-done l = l.after - l.done
