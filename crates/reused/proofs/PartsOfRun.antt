@@ -6,7 +6,7 @@ use native.Mathlib.Omega.{arith}
 use mir.Syntax.{w64}
 use mir.Val.{Fits}
 use borrow.Author.Tests.{lt-ltb}
-use Rattle.reused.specs.Types.{Process, Triple, Named, Own, Kind, State}
+use Rattle.reused.specs.Types.{Process, Triple, Option, Own, Kind, State, Announced}
 use Rattle.reused.specs.State.{sound_triple, sound_named, sound_row, sound_sizes, sound, row_at}
 use Rattle.reused.specs.Called.{looked_at, answer_with, entered, called}
 use Rattle.reused.specs.Parts.{sound_parts, played_parts}
@@ -38,7 +38,7 @@ pub row_place : (j : ℕ) → j < 16 → Fits w64 (j * 120)
 row_place j h = record { fits = omega (arith, h) }
 
 -- .. and what an entry of it is given is sound.
-pub parts_given : (n m : ℕ) (x : Triple) (own : Own) (looked : Named) → sound_parts n m x own looked ≡ true
+pub parts_given : (n m : ℕ) (x : Triple) (own : Own) (looked : Option Announced) → sound_parts n m x own looked ≡ true
     → (sound_sizes n m ≡ true) × (sound_row n m own ≡ true) × (sound_named n m looked ≡ true)
 unfolding sound_parts
 parts_given n m x own looked e =

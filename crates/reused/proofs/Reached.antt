@@ -10,7 +10,7 @@ use native.Mathlib.Decide.{ℕ_discrete}
 use lib.Dec.{ltb}
 use lib.ListN.{length}
 use borrow.Author.Tests.{ltb-true}
-use Rattle.reused.specs.Types.{Process, Triple, Named, Nobody, Names, Own, Stepped, Place, Idle, Load1, Load2, Load3, Store1, Store2, Check1, NotDone, Step, Entry, NoProcess, State, Answer}
+use Rattle.reused.specs.Types.{Process, Triple, Option, None, Some, Own, Stepped, Place, Idle, Load1, Load2, Load3, Store1, Store2, Check1, NotDone, Step, Entry, NoProcess, State, Answer, Announced}
 use Rattle.reused.specs.Steps.{all_equal, at, goes_on, answered, hits, hit, passed, renewed, chosen, step_at, step_of}
 use Rattle.reused.specs.State.{row_at, first_triple}
 use Rattle.reused.specs.Called.{looked_at, with_entry, answer_with, refused, entered, called}
@@ -33,7 +33,7 @@ one_register p own Store2 busy = refl
 one_register p own Check1 busy = refl
 
 -- What a step is not on it does not change.
-module _ (n m : ℕ) (p : Process) (x : Triple) (own : Own) (looked : Named) where
+module _ (n m : ℕ) (p : Process) (x : Triple) (own : Own) (looked : Option Announced) where
   x_kept : (place : Place) → (Memᴰ the_x (registers_at p.0 own place) → ⊥) → (step_at n m p x own looked place).x ≡ x
   x_kept Idle out = refl
   x_kept Load1 out = refl
@@ -92,12 +92,12 @@ abbrev triple_in : Content → Triple
 triple_in (a_triple w) = w
 triple_in (a_named a) = first_triple
 
-abbrev named_in : Content → Named
-named_in (a_triple w) = Nobody
+abbrev named_in : Content → Option Announced
+named_in (a_triple w) = None
 named_in (a_named a) = a
 
 -- Rows that differ only in what they announce: one is the other with its own announcement.
-abbrev announcing : Own → Named → Own
+abbrev announcing : Own → Option Announced → Own
 announcing own named =
     record { named = named; old = own.old; check = own.check; tag = own.tag; start = own.start; search = own.search; place = own.place }
 
@@ -110,7 +110,7 @@ record SameParts (r r' : Stepped) : Type 0 where
   own : private_of r.own ≡ private_of r'.own
 
 -- A step by X, by what is private, and by the place of A at its search place: nothing else counts.
-module _ (n m : ℕ) (p : Process) (x x' : Triple) (own : Own) (named : Named) (looked looked' : Named) where
+module _ (n m : ℕ) (p : Process) (x x' : Triple) (own : Own) (named : Option Announced) (looked looked' : Option Announced) where
   -- a step on X
   module _ (e : x ≡ x') where
     on_x : (place : Place) → SameParts (step_at n m p x own looked place) (step_at n m p x (announcing own named) looked' place) → SameParts (step_at n m p x own looked place) (step_at n m p x' (announcing own named) looked' place)
@@ -126,7 +126,7 @@ module _ (n m : ℕ) (p : Process) (x x' : Triple) (own : Own) (named : Named) (
       go true = record { outcome = refl; own = refl }
       go false = record { outcome = refl; own = refl }
 
-  choice_same : (l : Named) → private_of (chosen n m p own l) ≡ private_of (chosen n m p (announcing own named) l)
+  choice_same : (l : Option Announced) → private_of (chosen n m p own l) ≡ private_of (chosen n m p (announcing own named) l)
   unfolding chosen
   choice_same l = by_looked l
     where
@@ -137,9 +137,9 @@ module _ (n m : ℕ) (p : Process) (x x' : Triple) (own : Own) (named : Named) (
       go false true = refl
       go false false = refl
 
-      by_looked : (l : Named) → private_of (chosen n m p own l) ≡ private_of (chosen n m p (announcing own named) l)
-      by_looked Nobody = go false (ltb (own.search.0 + 1) n)
-      by_looked (Names a) = go (hits n m p own (Names a)) (ltb (own.search.0 + 1) n)
+      by_looked : (l : Option Announced) → private_of (chosen n m p own l) ≡ private_of (chosen n m p (announcing own named) l)
+      by_looked None = go false (ltb (own.search.0 + 1) n)
+      by_looked (Some a) = go (hits n m p own (Some a)) (ltb (own.search.0 + 1) n)
 
   check1_same : SameParts (step_at n m p x own looked Check1) (step_at n m p x (announcing own named) looked' Check1)
   check1_same = record { outcome = refl; own = refl }
@@ -156,7 +156,7 @@ module _ (n m : ℕ) (p : Process) (x x' : Triple) (own : Own) (named : Named) (
         outcome = refl;
         own =
             ap (λ (o : Own). at o Idle) (choice_same looked)
-            ∙ ap (λ (l : Named). at (private_of (chosen n m p (announcing own named) l)) Idle) (el (Memᴰ.head refl));
+            ∙ ap (λ (l : Option Announced). at (private_of (chosen n m p (announcing own named) l)) Idle) (el (Memᴰ.head refl));
       }
   same_at Check1 ex el = on_x (ex (Memᴰ.head refl)) Check1 check1_same
 
@@ -184,10 +184,10 @@ module _ (st st' : State) (p : Process) (ready : Ready st) (ready' : Ready st') 
   abbrev own : Own
   own = row_at st p.0
 
-  abbrev named : Named
+  abbrev named : Option Announced
   named = (row_at st' p.0).named
 
-  abbrev looked' : Named
+  abbrev looked' : Option Announced
   looked' = (row_at st' (row_at st p.0).search.0).named
 
   -- the two steps, the second by what is private in the first state

@@ -7,7 +7,7 @@ use mathlib.Core.List.Memᴰ
 use mathlib.Core.List.{List, [], ◌∷◌, Memᴰ}
 use native.Mathlib.Omega.{arith}
 use lib.Dec.{ltb}
-use Rattle.reused.specs.Types.{Process, Triple, Own, Named, Place, Idle, Load1, Load2, Load3, Store1, Store2, Check1, Request, Stepped, Outcome, Taken, Yes, No, NoProcess, CallOpen, Requested, Entry, State, Kind, Ask, Step}
+use Rattle.reused.specs.Types.{Process, Triple, Own, Option, Place, Idle, Load1, Load2, Load3, Store1, Store2, Check1, Request, Stepped, Outcome, Taken, Yes, No, NoProcess, CallOpen, Requested, Entry, State, Kind, Ask, Step, Announced}
 use Rattle.reused.specs.Circle.{sizes_number}
 use Rattle.reused.specs.Steps.{all_equal, at, step_at, idle, first_place, request_of, told_of}
 use Rattle.reused.specs.State.{row_at, first_state}
@@ -35,7 +35,7 @@ request_away own request = by_idle (idle own.place)
     by_idle true e = absurd (false≢true e)
     by_idle false e = refl
 
-module _ (n m : ℕ) (p : Process) (x : Triple) (own : Own) (looked : Named) where
+module _ (n m : ℕ) (p : Process) (x : Triple) (own : Own) (looked : Option Announced) where
   -- all that an entry was given, handed back
   abbrev Same : Stepped → Type 0
   Same r = turned_away r.outcome ≡ true → (r.x ≡ x) × (r.own ≡ own)
@@ -80,7 +80,7 @@ request_not_15 own request = by_idle (idle own.place)
     by_idle true = λ e. omega (arith, e)
     by_idle false = λ e. omega (arith, e)
 
-step_not_15 : (n m : ℕ) (p : Process) (x : Triple) (own : Own) (looked : Named) (place : Place) → Not15 (step_at n m p x own looked place).outcome
+step_not_15 : (n m : ℕ) (p : Process) (x : Triple) (own : Own) (looked : Option Announced) (place : Place) → Not15 (step_at n m p x own looked place).outcome
 step_not_15 n m p x own looked Idle = λ e. omega (arith, e)
 step_not_15 n m p x own looked Load1 = λ e. omega (arith, e)
 step_not_15 n m p x own looked Load2 = λ e. omega (arith, e)

@@ -7,7 +7,7 @@ use native.Mathlib.Omega.{arith}
 use lib.Dec.{ltb}
 use lib.ListN.{length, get_or, replicate, get_or-replicate}
 use borrow.Author.Tests.{lt-ltb, ltb-true}
-use Rattle.reused.specs.Types.{Process, Triple, Kept, Nothing, Holds, Named, Own, Place, Idle, Load1, Load2, Load3, Store1, Store2, Check1, Request, Load, Store, Check, Taken, CallOpen, Requested, Stepped, State, Kind, Ask, Step}
+use Rattle.reused.specs.Types.{Process, Triple, Option, None, Some, Own, Place, Idle, Load1, Load2, Load3, Store1, Store2, Check1, Request, Load, Store, Check, Taken, CallOpen, Requested, Stepped, State, Kind, Ask, Step, Announced}
 use Rattle.reused.specs.Circle.{interval_of, sizes_number}
 use Rattle.reused.specs.Steps.{all_equal, at, announced_of, hits, passed, renewed, with_choice, chosen, step_at, idle, first_place, request_of}
 use Rattle.reused.specs.State.{sound_triple, sound_kept, sound_named, sound_load, row_at, no_row, first_row, first_state}
@@ -22,16 +22,16 @@ pub record Left (n m : ℕ) (r : Stepped) : Type 0 where
   pub word : sound_triple n m r.x ≡ true
   pub own : SoundOwn n m r.own
 
-module _ (n m : ℕ) (p : Process) (x : Triple) (own : Own) (looked : Named) (range : Sizes n m) (below : p.0 < n) (word : sound_triple n m x ≡ true) (mine : SoundOwn n m own) where
+module _ (n m : ℕ) (p : Process) (x : Triple) (own : Own) (looked : Option Announced) (range : Sizes n m) (below : p.0 < n) (word : sound_triple n m x ≡ true) (mine : SoundOwn n m own) where
   -- the same row at another place, whose load has an old if it needs one
   stands : (place : Place) → sound_load own.old place ≡ true → SoundOwn n m (at own place)
   stands place h =
       record { named = mine.named; old = mine.old; check = mine.check; tag = mine.tag; start = mine.start; search = mine.search; load = h }
 
   -- What is announced is what was kept.
-  announced : (old : Kept) → sound_kept n m old ≡ true → sound_named n m (announced_of old) ≡ true
-  announced Nothing h = refl
-  announced (Holds w) h = h
+  announced : (old : Option Triple) → sound_kept n m old ≡ true → sound_named n m (announced_of old) ≡ true
+  announced None h = refl
+  announced (Some w) h = h
 
   -- the row with another choice, below M and below N
   chose : (tag start search : ℕ) → tag < m → start < m → search < n → SoundOwn n m (at (with_choice own tag start search) Idle)

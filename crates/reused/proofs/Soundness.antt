@@ -2,20 +2,23 @@
 use Prim.Native.Nat.{ℕ, ◌+◌, ◌*◌, ◌≤◌, ◌<◌}
 use mathlib.Core.Path.{◌≡◌, subst}
 use mathlib.Core.Bool.{Bool, true, ◌&&◌}
+use mathlib.Core.List.{List}
 use native.Mathlib.Nat.{mul-le-mul, mod-lt}
 use native.Mathlib.Omega.{arith}
 use lib.Dec.{leb, ltb}
+use lib.ListN.{length, get_or, take}
 use mir.Syntax.{w64}
 use mir.Val.{Fits}
 use borrow.Author.Tests.{ltb-true, leb-true, lt-ltb}
+use Rattle.std.specs.List.{list_all}
 use Rattle.numbers.specs.Numbers.{in_range_n, all_below, number_unless}
 use Rattle.numbers.proofs.Below.{all_at, all_intro}
 use Rattle.numbers.proofs.First.{found_both, unless_fine}
-use Rattle.reused.specs.Types.{Announced, Named, Names, Own, State}
+use Rattle.reused.specs.Types.{Announced, Option, Some, Own, State}
 use Rattle.reused.specs.Circle.{interval_of, in_range_m, sizes_number, ahead}
-use Rattle.reused.specs.State.{sound_point, sound_triple, sound_kept, sound_named, sound_load, sound_row, sound_sizes, sound, row_at}
+use Rattle.reused.specs.State.{sound_point, sound_triple, sound_kept, sound_named, sound_load, sound_row, sound_sizes, sound, row_at, no_row}
 use Rattle.reused.specs.Frame.{Ready}
-use Rattle.reused.proofs.Tests.{and_left, and_right, and_both}
+use Rattle.reused.proofs.Tests.{and_left, and_right, and_both, list_all_take}
 
 -- N and M in range
 pub record Sizes (n m : ℕ) : Type 0 where
@@ -124,9 +127,9 @@ row_back n m own h =
     (and_both _ _ (lt-ltb _ _ h.search) h.load)))))
 
 -- an announced tag
-pub named_tag : (n m : ℕ) {looked : Named} {a : Announced} → looked ≡ Names a → sound_named n m looked ≡ true → a.tag.0 < m
+pub named_tag : (n m : ℕ) {looked : Option Announced} {a : Announced} → looked ≡ Some a → sound_named n m looked ≡ true → a.tag.0 < m
 named_tag n m {looked} {a} e h =
-    let t : sound_named n m (Names a) ≡ true = subst (λ (l : Named). sound_named n m l ≡ true) e h in
+    let t : sound_named n m (Some a) ≡ true = subst (λ (l : Option Announced). sound_named n m l ≡ true) e h in
     ltb-true _ _ (and_left (sound_point m a.tag) (ltb a.process.0 n) t)
 
 -- the whole state
@@ -162,3 +165,8 @@ sure {st} h = sound_of st h.tested
 
 pub sizes : {st : State} → Sound st → Sizes st.n st.m
 sizes {st} h = sizes_of_lem st.n st.m h.range
+
+-- The rows below N are the front of the 16.
+pub rows_in_front : (n m : ℕ) (rows : List Own) → sound_sizes n m ≡ true → length rows ≡ 16
+    → list_all (sound_row n m) (take n rows) ≡ all_below n (λ p. sound_row n m (get_or rows p no_row))
+rows_in_front n m rows range full = list_all_take (sound_row n m) rows no_row n (omega (arith, (sizes_of_lem n m range).few))

@@ -1,6 +1,6 @@
 -- One entry on a state: document 02, P9, "Refusals: .. 11, 12, 14 and 15 in 01's order".
 use Rattle.std.specs.Prelude.{ℕ, cond, ltb, set}
-use Rattle.reused.specs.Types.{Process, Triple, Named, Own, Kind, Ask, Step, Outcome, NoProcess, Unsound, Requested, Stepped, State, Answer}
+use Rattle.reused.specs.Types.{Process, Triple, Option, Own, Kind, Ask, Step, Outcome, NoProcess, Unsound, Requested, Stepped, State, Answer, Announced}
 use Rattle.reused.specs.Steps.{step_of, request_of}
 use Rattle.reused.specs.State.{sound, row_at}
 
@@ -8,12 +8,12 @@ abbrev pub with_x : Triple → Requested → Stepped
 with_x x r = record { x = x; own = r.own; outcome = r.outcome }
 
 -- "A request starts a call and reaches no register. A step entry then runs the next step of the named process."
-abbrev pub parts_after : ℕ → ℕ → Process → Triple → Own → Named → Kind → Stepped
+abbrev pub parts_after : ℕ → ℕ → Process → Triple → Own → Option Announced → Kind → Stepped
 parts_after n m p x own looked (Ask request) = with_x x (request_of own request)
 parts_after n m p x own looked Step = step_of n m p x own looked
 
 -- the place of A that the second step of a store looks at: that of the search place
-abbrev pub looked_at : State → Own → Named
+abbrev pub looked_at : State → Own → Option Announced
 looked_at st own = (row_at st own.search.0).named
 
 -- An entry of p leaves X and p's row; everything else stays.

@@ -1,7 +1,7 @@
 -- The shared registers of the machine by name, and which of them the next step of a process reads or writes.
 use Rattle.std.specs.Prelude.{ℕ, ◌≡◌}
 use mathlib.Core.List.{List, [], ◌∷◌, Memᴰ}
-use Rattle.reused.specs.Types.{Triple, Named, Nobody, Own, Place, Idle, Load1, Load2, Load3, Store1, Store2, Check1, State, Answer}
+use Rattle.reused.specs.Types.{Triple, Option, None, Own, Place, Idle, Load1, Load2, Load3, Store1, Store2, Check1, State, Answer, Announced}
 use Rattle.reused.specs.State.{row_at}
 
 -- X, and each process's place of A
@@ -12,7 +12,7 @@ pub data Register : Type 0 where
 -- what a register can hold
 pub data Content : Type 0 where
   a_triple : Triple → Content
-  a_named : Named → Content
+  a_named : Option Announced → Content
 
 abbrev pub holds : State → Register → Content
 holds st the_x = a_triple st.x
@@ -36,7 +36,7 @@ step_is_on st p = registers_at p (row_at st p) (row_at st p).place
 -- what of a row is private to its process: all but its place of A
 abbrev pub private_of : Own → Own
 private_of own =
-    record { named = Nobody; old = own.old; check = own.check; tag = own.tag; start = own.start; search = own.search; place = own.place }
+    record { named = None; old = own.old; check = own.check; tag = own.tag; start = own.start; search = own.search; place = own.place }
 
 -- Two states hold the same in these registers.
 abbrev pub AgreeOn : List Register → State → State → Type 0

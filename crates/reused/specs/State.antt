@@ -1,16 +1,16 @@
 -- Document 02, P9: the state, what is unsound, and how everything starts.
 use Rattle.std.specs.Prelude.{ℕ, Bool, true, false, ◌&&◌, cond, ◌∷◌, eqb, ltb, get_or, replicate}
 use Rattle.numbers.specs.Numbers.{in_range_n, all_below}
-use Rattle.reused.specs.Types.{Point, Triple, Kept, Nothing, Holds, Named, Nobody, Names, Place, Idle, Load1, Load2, Load3, Store1, Store2, Check1, Own, State, Started}
+use Rattle.reused.specs.Types.{Point, Triple, Option, None, Some, Place, Idle, Load1, Load2, Load3, Store1, Store2, Check1, Own, State, Started, Announced}
 use Rattle.reused.specs.Circle.{interval_of, in_range_m, sizes_number}
 
 -- a row of the start: "A names nobody; the next start is D, the search place 0, old and check none", with this next tag
 abbrev pub first_row : ℕ → ℕ → Own
 first_row tag start =
     record {
-      named = Nobody;
-      old = Nothing;
-      check = Nothing;
+      named = None;
+      old = None;
+      check = None;
       tag = record { 0 = tag };
       start = record { 0 = start };
       search = record { 0 = 0 };
@@ -32,21 +32,21 @@ sound_point m t = ltb t.0 m
 abbrev pub sound_triple : ℕ → ℕ → Triple → Bool
 sound_triple n m w = sound_point m w.tag && ltb w.process.0 n
 
-abbrev pub sound_kept : ℕ → ℕ → Kept → Bool
-sound_kept n m Nothing = true
-sound_kept n m (Holds w) = sound_triple n m w
+abbrev pub sound_kept : ℕ → ℕ → Option Triple → Bool
+sound_kept n m None = true
+sound_kept n m (Some w) = sound_triple n m w
 
 -- the announced ones
-abbrev pub sound_named : ℕ → ℕ → Named → Bool
-sound_named n m Nobody = true
-sound_named n m (Names a) = sound_point m a.tag && ltb a.process.0 n
+abbrev pub sound_named : ℕ → ℕ → Option Announced → Bool
+sound_named n m None = true
+sound_named n m (Some a) = sound_point m a.tag && ltb a.process.0 n
 
 -- "a load past its first step has no old": it waits for step 2 or 3
-abbrev pub holds_any : Kept → Bool
-holds_any Nothing = false
-holds_any (Holds w) = true
+abbrev pub holds_any : Option Triple → Bool
+holds_any None = false
+holds_any (Some w) = true
 
-abbrev pub sound_load : Kept → Place → Bool
+abbrev pub sound_load : Option Triple → Place → Bool
 sound_load old Idle = true
 sound_load old Load1 = true
 sound_load old Load2 = holds_any old

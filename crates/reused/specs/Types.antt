@@ -6,11 +6,8 @@ use Rattle.requests.specs.declared.Request as request
 pub use Rattle.numbers.specs.declared.Process.{Process}
 pub use Rattle.reused.specs.declared.Announced.{Announced}
 pub use Rattle.reused.specs.declared.Answer.{Answer}
-pub use Rattle.reused.specs.declared.Kept.{Kept}
-pub use Rattle.reused.specs.declared.Kept.TheVariants.{Nothing, Holds}
+pub use Rattle.std.specs.Prelude.{Option, None, Some}
 pub use Rattle.requests.specs.declared.Kind.TheVariants.{Ask, Step}
-pub use Rattle.reused.specs.declared.Named.{Named}
-pub use Rattle.reused.specs.declared.Named.TheVariants.{Nobody, Names}
 pub use Rattle.reused.specs.declared.Outcome.{Outcome}
 pub use Rattle.reused.specs.declared.Outcome.TheVariants.{Taken, GoesOn, Value, Done, NotDone, Yes, No, NoProcess, CallOpen, NoCall, Unsound}
 pub use Rattle.reused.specs.declared.Own.{Own}

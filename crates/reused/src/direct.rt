@@ -3,8 +3,9 @@ ghost use Rattle.std.specs.Prelude.{◌≡◌, true, ◌<◌};
 ghost use Rattle.reused.specs.State.{sound};
 ghost use Rattle.reused.specs.Called.{entered, called};
 
-use crate::parts::parts_after;
+use crate::circle::Circle;
 use crate::sound::is_sound;
+use crate::turn::Turn;
 use crate::{Answer, Kind, Outcome, State};
 use numbers::Process;
 
@@ -16,23 +17,23 @@ fn enter(st: State, p: Process, kind: Kind) -> Answer
     ensures { result ≡ entered st p kind }
 {
     let i = p.0;
-    let n = st.n;
-    let m = st.m;
-    let x = st.x;
     let own = st.rows[i];
     let j = own.search.0;
-    let other = st.rows[j];
-    let looked = other.named;
-    let r = parts_after(n, m, p, x, own, looked, kind);
-    let now = r.x;
-    let left = r.own;
-    let outcome = r.outcome;
+    let looked = st.rows[j].named;
+    let turn = Turn {
+        circle: Circle { n: st.n, m: st.m },
+        process: p,
+        x: st.x,
+        own,
+        looked,
+    };
+    let left = turn.play(kind);
     let mut state = st;
-    state.x = now;
-    state.rows[i] = left;
+    state.x = left.x;
+    state.rows[i] = left.own;
     Answer {
-        state: state,
-        outcome: outcome,
+        state,
+        outcome: left.outcome,
     }
 }
 
@@ -41,21 +42,17 @@ fn enter(st: State, p: Process, kind: Kind) -> Answer
 pub fn call(st: State, p: Process, kind: Kind) -> Answer
     ensures { result ≡ called st p kind }
 {
-    let i = p.0;
-    let n = st.n;
-    if is_sound(st) {
-        if i < n {
-            enter(st, p, kind)
-        } else {
-            Answer {
-                state: st,
-                outcome: Outcome::NoProcess,
-            }
-        }
-    } else {
-        Answer {
+    if !is_sound(st) {
+        return Answer {
             state: st,
             outcome: Outcome::Unsound,
-        }
+        };
     }
+    if st.n <= p.0 {
+        return Answer {
+            state: st,
+            outcome: Outcome::NoProcess,
+        };
+    }
+    enter(st, p, kind)
 }

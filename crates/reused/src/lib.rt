@@ -12,26 +12,20 @@ pub mod parts;
 pub mod sound;
 mod step;
 pub mod tell;
+mod turn;
 
 use numbers::Process;
 
 // A number of the circle, from 0 and below M: a tag, or the start of an interval of tags. Never taken for a process.
-#[derive(Clone, Copy)]
+#[derive(Clone, Copy, PartialEq, Eq)]
 pub struct Point(pub u64);
 
 // What X holds, and what a process keeps of it: the tag, whose store it was, and the bit.
-#[derive(Clone, Copy)]
+#[derive(Clone, Copy, PartialEq, Eq)]
 pub struct Triple {
     pub tag: Point,
     pub process: Process,
     pub bit: bool,
-}
-
-// What a process has kept of X.
-#[derive(Clone, Copy)]
-pub enum Kept {
-    Nothing,
-    Holds(Triple),
 }
 
 // What a process announces in its place of A: whose store it has read, and by which tag.
@@ -39,12 +33,6 @@ pub enum Kept {
 pub struct Announced {
     pub process: Process,
     pub tag: Point,
-}
-
-#[derive(Clone, Copy)]
-pub enum Named {
-    Nobody,
-    Names(Announced),
 }
 
 // Where a process stands in its call: idle, or before the step of that number of a load, a store or a check.
@@ -59,13 +47,14 @@ pub enum Place {
     Check1,
 }
 
-// What only one process writes: its place of A, which every process can read, and what is private to it: old and check, its next tag, its
-// next start, its search place, and where it stands in its call.
+// What only one process writes: its place of A, which every process can read and which names nobody or what it announces, and what is
+// private to it: old and check, which it may have kept of X or not, its next tag, its next start, its search place, and where it stands in
+// its call.
 #[derive(Clone, Copy)]
 pub struct Own {
-    pub named: Named,
-    pub old: Kept,
-    pub check: Kept,
+    pub named: Option<Announced>,
+    pub old: Option<Triple>,
+    pub check: Option<Triple>,
     pub tag: Point,
     pub start: Point,
     pub search: Process,

@@ -4,7 +4,7 @@ ghost use Rattle.reused.specs.Circle.{sizes_number};
 ghost use Rattle.reused.specs.State.{first_row, first_triple, first_state, zero_state, start_of};
 
 use crate::circle::{interval_of, m_in_range};
-use crate::{Kept, Named, Own, Place, Point, Started, State, Triple};
+use crate::{Own, Place, Point, Started, State, Triple};
 use numbers::{Process, n_in_range, number_unless};
 
 // The number that refuses N and M, or 0: 16 for N, then 24 for M.
@@ -12,8 +12,7 @@ pub fn sizes_number(n: usize, m: u64) -> usize
     ensures { result ≡ sizes_number n m }
 {
     if n_in_range(n) {
-        let fine = m_in_range(n, m);
-        number_unless(fine, 24)
+        number_unless(m_in_range(n, m), 24)
     } else {
         16
     }
@@ -23,9 +22,9 @@ fn first_row(tag: u64, start: u64) -> Own
     ensures { result ≡ first_row tag start }
 {
     Own {
-        named: Named::Nobody,
-        old: Kept::Nothing,
-        check: Kept::Nothing,
+        named: None,
+        old: None,
+        check: None,
         tag: Point(tag),
         start: Point(start),
         search: Process(0),
@@ -48,29 +47,24 @@ fn first_state(n: usize, m: u64) -> State
     ensures { result ≡ first_state n m }
 {
     let d = interval_of(n);
-    let zero = first_row(1, d);
-    let other = first_row(0, d);
-    let x = first_triple();
-    let mut rows = [other; 16];
-    rows[0] = zero;
+    let mut rows = [first_row(0, d); 16];
+    rows[0] = first_row(1, d);
     State {
-        n: n,
-        m: m,
-        x: x,
-        rows: rows,
+        n,
+        m,
+        x: first_triple(),
+        rows,
     }
 }
 
 pub fn zero_state() -> State
     ensures { result ≡ zero_state }
 {
-    let row = first_row(0, 0);
-    let x = first_triple();
     State {
         n: 0,
         m: 0,
-        x: x,
-        rows: [row; 16],
+        x: first_triple(),
+        rows: [first_row(0, 0); 16],
     }
 }
 
@@ -79,17 +73,10 @@ pub fn start(n: usize, m: u64) -> Started
     ensures { result ≡ start_of n m }
 {
     let number = sizes_number(n, m);
-    if number == 0 {
-        let state = first_state(n, m);
-        Started {
-            state: state,
-            number: 0,
-        }
+    let state = if number == 0 {
+        first_state(n, m)
     } else {
-        let state = zero_state();
-        Started {
-            state: state,
-            number: number,
-        }
-    }
+        zero_state()
+    };
+    Started { state, number }
 }

@@ -1,92 +1,76 @@
 // An entry over the parts that it can reach, for a direct call and for a loop that keeps the state itself.
-ghost use Rattle.std.specs.Prelude.{◌≡◌, true, not};
+ghost use Rattle.std.specs.Prelude.{◌≡◌, not};
 ghost use Rattle.reused.specs.Steps.{same_triple, request_of};
-ghost use Rattle.reused.specs.State.{sound_sizes, sound_named, sound_row};
 ghost use Rattle.reused.specs.Called.{with_x, parts_after};
 ghost use Rattle.reused.specs.Parts.{played_parts};
 ghost use Rattle.reused.specs.Run.{steps_by};
 
+use crate::circle::Circle;
 use crate::sound::parts_are_sound;
-use crate::step::{own_steps, request_call, same_triple, step};
-use crate::tell::tell;
-use crate::{Kind, Named, Outcome, Own, Place, Request, Stepped, Triple};
+use crate::step::turn_away;
+use crate::turn::Turn;
+use crate::{Announced, Kind, Outcome, Own, Place, Request, Stepped, Triple};
 use numbers::Process;
 
-fn ask_parts(x: Triple, own: Own, wanted: Request) -> Stepped
-    ensures { result ≡ with_x x (request_of own wanted) }
-{
-    let r = request_call(own, wanted);
-    let left = r.own;
-    let outcome = r.outcome;
-    Stepped {
-        x: x,
-        own: left,
-        outcome: outcome,
+impl Turn {
+    fn ask(self, wanted: Request) -> Stepped
+        ensures { result ≡ with_x self.x (request_of self.own wanted) }
+    {
+        let asked = self.own.request(wanted);
+        Stepped {
+            x: self.x,
+            own: asked.own,
+            outcome: asked.outcome,
+        }
     }
-}
 
-// What an entry of p leaves of X and of its row, where all is sound.
-pub(crate) fn parts_after(
-    n: usize,
-    m: u64,
-    p: Process,
-    x: Triple,
-    own: Own,
-    looked: Named,
-    kind: Kind,
-) -> Stepped
-    requires { (sound_sizes n m ≡ true) × (sound_row n m own ≡ true) × (sound_named n m looked ≡ true) }
-    ensures { result ≡ parts_after n m p x own looked kind }
-{
-    match kind {
-        Kind::Ask(wanted) => ask_parts(x, own, wanted),
-        Kind::Step => step(n, m, p, x, own, looked),
+    // What the entry leaves of X and of the process's row.
+    pub(crate) fn play(self, kind: Kind) -> Stepped
+        ensures { result ≡ parts_after self.circle.n self.circle.m self.process self.x self.own self.looked kind }
+    {
+        match kind {
+            Kind::Ask(wanted) => self.ask(wanted),
+            Kind::Step => self.step(),
+        }
     }
 }
 
 // An entry of process p, given X, its row, and the place of A at its search place.
-#[tactic(auto, unfolding(crate::specs::Parts::played_parts))]
+#[tactic(auto, unfolding(crate::specs::Parts::played_parts, crate::specs::Parts::sound_parts))]
 pub fn play_parts(
     n: usize,
     m: u64,
     p: Process,
     x: Triple,
     own: Own,
-    looked: Named,
+    looked: Option<Announced>,
     kind: Kind,
 ) -> Stepped
     ensures { result ≡ played_parts n m p x own looked kind }
 {
-    let i = p.0;
-    if parts_are_sound(n, m, x, own, looked) {
-        if i < n {
-            parts_after(n, m, p, x, own, looked, kind)
-        } else {
-            Stepped {
-                x: x,
-                own: own,
-                outcome: Outcome::NoProcess,
-            }
-        }
-    } else {
-        Stepped {
-            x: x,
-            own: own,
-            outcome: Outcome::Unsound,
-        }
+    if !parts_are_sound(n, m, x, own, looked) {
+        return turn_away(x, own, Outcome::Unsound);
     }
+    if n <= p.0 {
+        return turn_away(x, own, Outcome::NoProcess);
+    }
+    let turn = Turn {
+        circle: Circle { n, m },
+        process: p,
+        x,
+        own,
+        looked,
+    };
+    turn.play(kind)
 }
 
 // How many own steps are said of an entry, by the place before it and its outcome.
 pub fn steps_by(place: Place, kind: Kind, outcome: Outcome) -> u8
     ensures { result ≡ steps_by place kind outcome }
 {
-    let told = tell(outcome);
-    let number = told.number;
-    let steps = own_steps(place);
     match kind {
-        Kind::Ask(_) => 0,
-        Kind::Step => { if 11 <= number { 0 } else { steps } }
+        Kind::Step if outcome.tell().number < 11 => place.own_steps(),
+        _ => 0,
     }
 }
 
@@ -94,6 +78,5 @@ pub fn steps_by(place: Place, kind: Kind, outcome: Outcome) -> u8
 pub fn x_changed(before: Triple, after: Triple) -> bool
     ensures { result ≡ not (same_triple before after) }
 {
-    let same = same_triple(before, after);
-    !same
+    before != after
 }

@@ -1,50 +1,91 @@
 // The steps of a load, a store and a check, and a request: what each leaves of X and of its process's row.
-ghost use Rattle.std.specs.Prelude.{◌≡◌, true};
-ghost use Rattle.reused.specs.Steps.{same_bit, same_triple, is_kept, both_keep, all_equal, at, goes_on, answered, load1, announced_of, load2, stored_of, load3, store1, store2, check1, step_of, own_steps, first_place, request_of, with_kept};
-ghost use Rattle.reused.specs.State.{sound_sizes, sound_named, sound_row};
+ghost use Rattle.std.specs.Prelude.{◌≡◌};
+ghost use Rattle.reused.specs.Steps.{all_equal, at, goes_on, answered, as_was, load1, announced_of, load2, stored_of, load3, store1, store2, check1, step_of, own_steps, idle, first_place, request_of};
 
-use crate::choice::choose;
-use crate::{
-    Announced, Kept, Named, Outcome, Own, Place, Request, Requested, Stepped, Stored, Triple,
-};
-use numbers::{Process, both};
+use crate::turn::Turn;
+use crate::{Announced, Outcome, Own, Place, Request, Requested, Stepped, Stored, Triple};
+use numbers::Process;
 
-fn same_bit(a: bool, b: bool) -> bool
-    ensures { result ≡ same_bit a b }
-{
-    if a { b } else { !b }
-}
+impl Place {
+    // How many own steps the call will have taken with the next one.
+    pub(crate) fn own_steps(self) -> u8
+        ensures { result ≡ own_steps self }
+    {
+        match self {
+            Place::Idle => 0,
+            Place::Load1 | Place::Store1(_) | Place::Check1 => 1,
+            Place::Load2 | Place::Store2 => 2,
+            Place::Load3 => 3,
+        }
+    }
 
-pub(crate) fn same_triple(a: Triple, b: Triple) -> bool
-    ensures { result ≡ same_triple a b }
-{
-    let t = a.tag.0;
-    let u = b.tag.0;
-    let p = a.process.0;
-    let q = b.process.0;
-    let i = a.bit;
-    let j = b.bit;
-    let tag = t == u;
-    let owner = p == q;
-    let bit = same_bit(i, j);
-    both(tag, both(owner, bit))
-}
+    // The first place of a call.
+    fn first(request: Request) -> Place
+        ensures { result ≡ first_place request }
+    {
+        match request {
+            Request::Load => Place::Load1,
+            Request::Store(bit) => Place::Store1(bit),
+            Request::Check => Place::Check1,
+        }
+    }
 
-fn is_kept(kept: Kept, x: Triple) -> bool
-    ensures { result ≡ is_kept kept x }
-{
-    match kept {
-        Kept::Nothing => false,
-        Kept::Holds(w) => same_triple(w, x),
+    fn is_idle(self) -> bool
+        ensures { result ≡ idle self }
+    {
+        matches!(self, Place::Idle)
     }
 }
 
-fn both_keep(old: Kept, check: Kept) -> bool
-    ensures { result ≡ both_keep old check }
-{
-    match old {
-        Kept::Nothing => false,
-        Kept::Holds(w) => is_kept(check, w),
+impl Own {
+    // The row with another call place.
+    fn at(self, place: Place) -> Own
+        ensures { result ≡ at self place }
+    {
+        Own { place, ..self }
+    }
+
+    // What old announces,
+    fn announced(self) -> Option<Announced>
+        ensures { result ≡ announced_of self.old }
+    {
+        self.old.map(|w| Announced {
+            process: w.process,
+            tag: w.tag,
+        })
+    }
+
+    // and what it answers.
+    fn stored(self) -> Stored
+        ensures { result ≡ stored_of self.old }
+    {
+        match self.old {
+            Some(w) => Stored {
+                process: w.process,
+                bit: w.bit,
+            },
+            None => Stored {
+                process: Process(0),
+                bit: false,
+            },
+        }
+    }
+
+    // The request of a call by the process whose row this is.
+    pub(crate) fn request(self, request: Request) -> Requested
+        ensures { result ≡ request_of self request }
+    {
+        if self.place.is_idle() {
+            Requested {
+                own: self.at(Place::first(request)),
+                outcome: Outcome::Taken,
+            }
+        } else {
+            Requested {
+                own: self,
+                outcome: Outcome::CallOpen,
+            }
+        }
     }
 }
 
@@ -52,47 +93,15 @@ fn both_keep(old: Kept, check: Kept) -> bool
 fn all_equal(x: Triple, own: Own) -> bool
     ensures { result ≡ all_equal x own }
 {
-    let old = own.old;
-    let check = own.check;
-    let two = both_keep(old, check);
-    let third = is_kept(old, x);
-    both(two, third)
-}
-
-// The row with what a load writes, and another call place.
-fn with_kept(own: Own, named: Named, old: Kept, check: Kept, place: Place) -> Own
-    ensures { result ≡ with_kept own named old check place }
-{
-    let tag = own.tag;
-    let start = own.start;
-    let search = own.search;
-    Own {
-        named: named,
-        old: old,
-        check: check,
-        tag: tag,
-        start: start,
-        search: search,
-        place: place,
-    }
-}
-
-// The row with another call place.
-fn stand_at(own: Own, place: Place) -> Own
-    ensures { result ≡ at own place }
-{
-    let named = own.named;
-    let old = own.old;
-    let check = own.check;
-    with_kept(own, named, old, check, place)
+    own.old == own.check && own.old == Some(x)
 }
 
 fn go_on(x: Triple, own: Own) -> Stepped
     ensures { result ≡ goes_on x own }
 {
     Stepped {
-        x: x,
-        own: own,
+        x,
+        own,
         outcome: Outcome::GoesOn,
     }
 }
@@ -100,189 +109,100 @@ fn go_on(x: Triple, own: Own) -> Stepped
 fn answer(x: Triple, own: Own, outcome: Outcome) -> Stepped
     ensures { result ≡ answered x own outcome }
 {
-    let left = stand_at(own, Place::Idle);
     Stepped {
-        x: x,
-        own: left,
-        outcome: outcome,
+        x,
+        own: own.at(Place::Idle),
+        outcome,
     }
 }
 
-// Load: read X as old,
-fn step_load1(x: Triple, own: Own) -> Stepped
-    ensures { result ≡ load1 x own }
+pub(crate) fn turn_away(x: Triple, own: Own, outcome: Outcome) -> Stepped
+    ensures { result ≡ as_was x own outcome }
 {
-    let named = own.named;
-    let check = own.check;
-    let old = Kept::Holds(x);
-    let left = with_kept(own, named, old, check, Place::Load2);
-    go_on(x, left)
+    Stepped { x, own, outcome }
 }
 
-fn announce(old: Kept) -> Named
-    ensures { result ≡ announced_of old }
-{
-    match old {
-        Kept::Nothing => Named::Nobody,
-        Kept::Holds(w) => {
-            let owner = w.process;
-            let tag = w.tag;
-            let a = Announced {
-                process: owner,
-                tag: tag,
-            };
-            Named::Names(a)
-        }
-    }
-}
-
-// announce old's process and tag,
-fn step_load2(x: Triple, own: Own) -> Stepped
-    ensures { result ≡ load2 x own }
-{
-    let old = own.old;
-    let check = own.check;
-    let named = announce(old);
-    let left = with_kept(own, named, old, check, Place::Load3);
-    go_on(x, left)
-}
-
-fn value_of(old: Kept) -> Stored
-    ensures { result ≡ stored_of old }
-{
-    match old {
-        Kept::Nothing => Stored {
-            process: Process(0),
-            bit: false,
-        },
-        Kept::Holds(w) => {
-            let owner = w.process;
-            let bit = w.bit;
-            Stored {
-                process: owner,
-                bit: bit,
-            }
-        }
-    }
-}
-
-// read X as check, and answer.
-fn step_load3(x: Triple, own: Own) -> Stepped
-    ensures { result ≡ load3 x own }
-{
-    let named = own.named;
-    let old = own.old;
-    let value = value_of(old);
-    let check = Kept::Holds(x);
-    let left = with_kept(own, named, old, check, Place::Idle);
-    let outcome = Outcome::Value(value);
-    Stepped {
-        x: x,
-        own: left,
-        outcome: outcome,
-    }
-}
-
-// Store: X becomes [tag, p, bit] if X, old and check are equal,
-fn step_store1(p: Process, x: Triple, own: Own, bit: bool) -> Stepped
-    ensures { result ≡ store1 p x own bit }
-{
-    let tag = own.tag;
-    if all_equal(x, own) {
-        let changed = Triple {
-            tag: tag,
-            process: p,
-            bit: bit,
+impl Turn {
+    // Load: read X as old,
+    fn load1(self) -> Stepped
+        ensures { result ≡ load1 self.x self.own }
+    {
+        let own = Own {
+            old: Some(self.x),
+            place: Place::Load2,
+            ..self.own
         };
-        let left = stand_at(own, Place::Store2);
-        go_on(changed, left)
-    } else {
-        answer(x, own, Outcome::NotDone)
+        go_on(self.x, own)
     }
-}
 
-// and then the next tag is chosen.
-fn step_store2(n: usize, m: u64, p: Process, x: Triple, own: Own, looked: Named) -> Stepped
-    requires { (sound_sizes n m ≡ true) × (sound_row n m own ≡ true) × (sound_named n m looked ≡ true) }
-    ensures { result ≡ store2 n m p x own looked }
-{
-    let left = choose(n, m, p, own, looked);
-    answer(x, left, Outcome::Done)
-}
-
-fn step_check1(x: Triple, own: Own) -> Stepped
-    ensures { result ≡ check1 x own }
-{
-    if all_equal(x, own) {
-        answer(x, own, Outcome::Yes)
-    } else {
-        answer(x, own, Outcome::No)
+    // announce old's process and tag,
+    fn load2(self) -> Stepped
+        ensures { result ≡ load2 self.x self.own }
+    {
+        let own = Own {
+            named: self.own.announced(),
+            place: Place::Load3,
+            ..self.own
+        };
+        go_on(self.x, own)
     }
-}
 
-// The next step of process p.
-pub(crate) fn step(n: usize, m: u64, p: Process, x: Triple, own: Own, looked: Named) -> Stepped
-    requires { (sound_sizes n m ≡ true) × (sound_row n m own ≡ true) × (sound_named n m looked ≡ true) }
-    ensures { result ≡ step_of n m p x own looked }
-{
-    let place = own.place;
-    match place {
-        Place::Idle => Stepped {
-            x: x,
-            own: own,
-            outcome: Outcome::NoCall,
-        },
-        Place::Load1 => step_load1(x, own),
-        Place::Load2 => step_load2(x, own),
-        Place::Load3 => step_load3(x, own),
-        Place::Store1(bit) => step_store1(p, x, own, bit),
-        Place::Store2 => step_store2(n, m, p, x, own, looked),
-        Place::Check1 => step_check1(x, own),
+    // read X as check, and answer.
+    fn load3(self) -> Stepped
+        ensures { result ≡ load3 self.x self.own }
+    {
+        let own = Own {
+            check: Some(self.x),
+            ..self.own
+        };
+        answer(self.x, own, Outcome::Value(self.own.stored()))
     }
-}
 
-// How many own steps the call will have taken with the next one.
-pub(crate) fn own_steps(place: Place) -> u8
-    ensures { result ≡ own_steps place }
-{
-    match place {
-        Place::Idle => 0,
-        Place::Load1 => 1,
-        Place::Load2 => 2,
-        Place::Load3 => 3,
-        Place::Store1(_) => 1,
-        Place::Store2 => 2,
-        Place::Check1 => 1,
-    }
-}
-
-fn first_place(request: Request) -> Place
-    ensures { result ≡ first_place request }
-{
-    match request {
-        Request::Load => Place::Load1,
-        Request::Store(bit) => Place::Store1(bit),
-        Request::Check => Place::Check1,
-    }
-}
-
-// The request of a call by the process whose row this is.
-pub(crate) fn request_call(own: Own, request: Request) -> Requested
-    ensures { result ≡ request_of own request }
-{
-    let place = own.place;
-    let rank = own_steps(place);
-    if rank == 0 {
-        let first = first_place(request);
-        let left = stand_at(own, first);
-        Requested {
-            own: left,
-            outcome: Outcome::Taken,
+    // Store: X becomes [tag, p, bit] if X, old and check are equal,
+    fn store1(self, bit: bool) -> Stepped
+        ensures { result ≡ store1 self.process self.x self.own bit }
+    {
+        if all_equal(self.x, self.own) {
+            let changed = Triple {
+                tag: self.own.tag,
+                process: self.process,
+                bit,
+            };
+            go_on(changed, self.own.at(Place::Store2))
+        } else {
+            answer(self.x, self.own, Outcome::NotDone)
         }
-    } else {
-        Requested {
-            own: own,
-            outcome: Outcome::CallOpen,
+    }
+
+    // and then the next tag is chosen.
+    fn store2(self) -> Stepped
+        ensures { result ≡ store2 self.circle.n self.circle.m self.process self.x self.own self.looked }
+    {
+        answer(self.x, self.choose(), Outcome::Done)
+    }
+
+    fn check1(self) -> Stepped
+        ensures { result ≡ check1 self.x self.own }
+    {
+        if all_equal(self.x, self.own) {
+            answer(self.x, self.own, Outcome::Yes)
+        } else {
+            answer(self.x, self.own, Outcome::No)
+        }
+    }
+
+    // The next step of the process.
+    pub(crate) fn step(self) -> Stepped
+        ensures { result ≡ step_of self.circle.n self.circle.m self.process self.x self.own self.looked }
+    {
+        match self.own.place {
+            Place::Idle => turn_away(self.x, self.own, Outcome::NoCall),
+            Place::Load1 => self.load1(),
+            Place::Load2 => self.load2(),
+            Place::Load3 => self.load3(),
+            Place::Store1(bit) => self.store1(bit),
+            Place::Store2 => self.store2(),
+            Place::Check1 => self.check1(),
         }
     }
 }

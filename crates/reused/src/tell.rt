@@ -5,36 +5,34 @@ ghost use Rattle.reused.specs.Steps.{says, told_of};
 use crate::{Outcome, Stored, Told};
 use numbers::Process;
 
-fn tell_so(number: u8) -> Told
-    ensures { result ≡ says number }
-{
-    let none = Stored {
-        process: Process(0),
-        bit: false,
-    };
-    Told {
-        number: number,
-        stored: none,
+impl Told {
+    fn says(number: u8) -> Told
+        ensures { result ≡ says number }
+    {
+        let stored = Stored {
+            process: Process(0),
+            bit: false,
+        };
+        Told { number, stored }
     }
 }
 
-pub fn tell(outcome: Outcome) -> Told
-    ensures { result ≡ told_of outcome }
-{
-    match outcome {
-        Outcome::Taken => tell_so(0),
-        Outcome::GoesOn => tell_so(1),
-        Outcome::Value(v) => Told {
-            number: 2,
-            stored: v,
-        },
-        Outcome::Done => tell_so(3),
-        Outcome::NotDone => tell_so(4),
-        Outcome::Yes => tell_so(5),
-        Outcome::No => tell_so(6),
-        Outcome::NoProcess => tell_so(11),
-        Outcome::CallOpen => tell_so(12),
-        Outcome::NoCall => tell_so(14),
-        Outcome::Unsound => tell_so(15),
+impl Outcome {
+    pub fn tell(self) -> Told
+        ensures { result ≡ told_of self }
+    {
+        match self {
+            Outcome::Taken => Told::says(0),
+            Outcome::GoesOn => Told::says(1),
+            Outcome::Value(stored) => Told { number: 2, stored },
+            Outcome::Done => Told::says(3),
+            Outcome::NotDone => Told::says(4),
+            Outcome::Yes => Told::says(5),
+            Outcome::No => Told::says(6),
+            Outcome::NoProcess => Told::says(11),
+            Outcome::CallOpen => Told::says(12),
+            Outcome::NoCall => Told::says(14),
+            Outcome::Unsound => Told::says(15),
+        }
     }
 }

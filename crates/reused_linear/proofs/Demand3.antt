@@ -27,7 +27,7 @@ use Rattle.reused.proofs.RunLaws.{played_ready, frame}
 use Rattle.reused_linear.specs.Types.{Process, Stored, NoProcess, Own, Kind, Ask, Step, Stepped, State, Entry, Answer}
 use Rattle.reused_linear.specs.Safe.{Safe, first_safe, safe_on}
 use Rattle.reused_linear.specs.Demand3.{asked_of, said_of, rules, Demand3, ChangesDecide}
-use Rattle.reused_linear.proofs.Readers.{holds_not}
+use Rattle.std.proofs.lemmas.Option.{none-some}
 use Rattle.reused_linear.proofs.Side.{Side, Sim}
 use Rattle.reused_linear.proofs.Entries.{stage_of, stages, Next, next_away, next_request, next_step, fresh_tag}
 use Rattle.reused_linear.proofs.Theorems.{Steady, sizes_ready, few_ready, rows_put, steady_entry, steady_start}
@@ -156,7 +156,7 @@ sim_start n m few =
                 loads = λ h. absurd h;
                 inside = λ h. absurd h;
                 outside = λ h e. absurd (nothing e);
-                newest = λ h. absurd (holds_not h.old);
+                newest = λ h. absurd (none-some _ h.old);
               };
           link = λ h. refl;
           call = tt;

@@ -18,7 +18,7 @@ use Rattle.reused.specs.Steps.{same_triple, all_equal, none_stored, stored_of, c
 use Rattle.reused.specs.Steps as steps
 use Rattle.reused.specs.Called.{parts_after}
 use Rattle.reused.specs.Run.{EntryNote, turned_away, steps_by}
-use Rattle.reused_linear.specs.Types.{Process, Triple, Named, Holds, Stored, Place, Idle, Load1, Load2, Load3, Store1, Store2, Check1, Own, Outcome, Taken, GoesOn, Value, Done, NotDone, Yes, No, NoProcess, CallOpen, NoCall, Unsound, Kind, Ask, Step, Request, Load, Store, Check, Requested, Stepped, Entry}
+use Rattle.reused_linear.specs.Types.{Process, Triple, Option, Some, Stored, Place, Idle, Load1, Load2, Load3, Store1, Store2, Check1, Own, Outcome, Taken, GoesOn, Value, Done, NotDone, Yes, No, NoProcess, CallOpen, NoCall, Unsound, Kind, Ask, Step, Request, Load, Store, Check, Requested, Stepped, Entry, Announced}
 use Rattle.reused_linear.specs.Safe.{Safe}
 use Rattle.reused_linear.specs.Demand3.{wants, asked_of, said_of, MayGoOn, MayAnswer, rules}
 use Rattle.reused_linear.specs.Claims.{at_choice, OutsideLoad}
@@ -183,7 +183,7 @@ module _ {n : ℕ} {x : Triple} {own : ℕ → Own} {c : Calls Stored} (s : Sim 
           changes = same_x x;
         }
 
-    pub next_request : (request : Request) (looked : Named) (m : ℕ)
+    pub next_request : (request : Request) (looked : Option Announced) (m : ℕ)
         → Next n x own c p (Ask request) (parts_after n m p x (own p.0) looked (Ask request)) (put p.0 (parts_after n m p x (own p.0) looked (Ask request)).own own)
     next_request request looked m = go (idle (own p.0).place) refl
       where
@@ -226,7 +226,7 @@ module _ {n : ℕ} {x : Triple} {own : ℕ → Own} {c : Calls Stored} (s : Sim 
         (opened_at known 1 p.0 l here) (rank_is e (o.counted ∙ sym rank)) (subst (λ (i : Op Stored). MayGoOn i (suc (c.steps p.0))) (sym asked) (omega (arith, o.counted, low)))
 
     -- Step 3.
-    step_3 : (own p.0).place ≡ Load3 → (w : Triple) × ((own p.0).old ≡ Holds w) → Next n x own c p Step (load3 x (own p.0)) (put p.0 (load3 x (own p.0)).own own)
+    step_3 : (own p.0).place ≡ Load3 → (w : Triple) × ((own p.0).old ≡ Some w) → Next n x own c p Step (load3 x (own p.0)) (put p.0 (load3 x (own p.0)).own own)
     step_3 e has =
         let (o, asked, fresh) = known_at known 1 p.0 l (ap stage_of e) in
         next_answers (load3 x (own p.0)).own (Value (stored_of (own p.0).old)) (value (stored_of (own p.0).old)) refl (sim_3 s p l e has)
@@ -301,7 +301,7 @@ module _ {n : ℕ} {x : Triple} {own : ℕ → Own} {c : Calls Stored} (s : Sim 
             (opened_at known 1 p.0 l (ap stage_of e)) (rank_is e o.counted) refl (asked, o.counted)
 
     -- The next step of p, whichever it is: a load past its first step has an old, and nobody is linked to what a store will put into X.
-    pub next_step : (m : ℕ) (looked : Named) → (Loading (own p.0).place → (w : Triple) × ((own p.0).old ≡ Holds w))
+    pub next_step : (m : ℕ) (looked : Option Announced) → (Loading (own p.0).place → (w : Triple) × ((own p.0).old ≡ Some w))
         → ((bit : Bool) → (own p.0).place ≡ Store1 bit → (q : ℕ) → q < n → Linked (own q) (record { tag = (own p.0).tag; process = p; bit = bit }) → ⊥)
         → Next n x own c p Step (step_of n m p x (own p.0) looked) (put p.0 (step_of n m p x (own p.0) looked).own own)
     unfolding chosen

@@ -10,23 +10,23 @@ use native.Mathlib.Omega.{arith}
 use lib.Dec.{eqb}
 use lib.ListN.{length, length-append}
 use borrow.Author.Tests.{eq-eqb}
-use Rattle.reused_linear.specs.Types.{Triple, Announced, Named, Nobody, Names, Kept, Nothing, Holds, Place, Idle, Load1, Load2, Load3, Store1, Store2, Check1, Own}
+use Rattle.reused_linear.specs.Types.{Triple, Announced, Option, None, Some, Place, Idle, Load1, Load2, Load3, Store1, Store2, Check1, Own}
 use Rattle.reused_linear.proofs.Lists.{In, in_left, in_right}
 
 -- the tag, if it is one of p
 abbrev pub of_owner : ℕ → ℕ → ℕ → List ℕ
 of_owner p process tag = cond (eqb process p) (tag ∷ []) []
 
-abbrev pub in_name : ℕ → Named → List ℕ
-in_name p Nobody = []
-in_name p (Names a) = of_owner p a.process.0 a.tag.0
+abbrev pub in_name : ℕ → Option Announced → List ℕ
+in_name p None = []
+in_name p (Some a) = of_owner p a.process.0 a.tag.0
 
-abbrev pub in_kept : ℕ → Kept → List ℕ
-in_kept p Nothing = []
-in_kept p (Holds w) = of_owner p w.process.0 w.tag.0
+abbrev pub in_kept : ℕ → Option Triple → List ℕ
+in_kept p None = []
+in_kept p (Some w) = of_owner p w.process.0 w.tag.0
 
 -- of a process that waits for step 2 of its load
-abbrev pub in_read : ℕ → Kept → Place → List ℕ
+abbrev pub in_read : ℕ → Option Triple → Place → List ℕ
 in_read p old Idle = []
 in_read p old Load1 = []
 in_read p old Load2 = in_kept p old
@@ -59,21 +59,21 @@ few_owned p process tag = go (eqb process p)
     go true = omega arith
     go false = omega arith
 
-few_name : (p : ℕ) (a : Named) → length (in_name p a) ≤ 1
-few_name p Nobody = omega arith
-few_name p (Names a) = few_owned p a.process.0 a.tag.0
+few_name : (p : ℕ) (a : Option Announced) → length (in_name p a) ≤ 1
+few_name p None = omega arith
+few_name p (Some a) = few_owned p a.process.0 a.tag.0
 
-few_read : (p : ℕ) (old : Kept) (place : Place) → length (in_read p old place) ≤ 1
+few_read : (p : ℕ) (old : Option Triple) (place : Place) → length (in_read p old place) ≤ 1
 few_read p old Idle = omega arith
 few_read p old Load1 = omega arith
-few_read p Nothing Load2 = omega arith
-few_read p (Holds w) Load2 = few_owned p w.process.0 w.tag.0
+few_read p None Load2 = omega arith
+few_read p (Some w) Load2 = few_owned p w.process.0 w.tag.0
 few_read p old Load3 = omega arith
 few_read p old (Store1 bit) = omega arith
 few_read p old Store2 = omega arith
 few_read p old Check1 = omega arith
 
-no_read : (p : ℕ) (old : Kept) (place : Place) → (Pending place → ⊥) → length (in_read p old place) ≡ 0
+no_read : (p : ℕ) (old : Option Triple) (place : Place) → (Pending place → ⊥) → length (in_read p old place) ≡ 0
 no_read p old Idle h = refl
 no_read p old Load1 h = refl
 no_read p old Load2 h = absurd (h tt)
@@ -90,7 +90,7 @@ module _ (p : ℕ) (x : Triple) (own : ℕ → Own) where
       in_right x.tag.0 (in_name p (own n).named) (in_read p (own n).old (own n).place ++ held p x own n)
       (in_right x.tag.0 (in_read p (own n).old (own n).place) (held p x own n) (x_held n e))
 
-  pub name_held : (n q : ℕ) (a : Announced) → q < n → (own q).named ≡ Names a → a.process.0 ≡ p → In a.tag.0 (held p x own n)
+  pub name_held : (n q : ℕ) (a : Announced) → q < n → (own q).named ≡ Some a → a.process.0 ≡ p → In a.tag.0 (held p x own n)
   unfolding held
   name_held zero q a l e f = absurd (omega (arith, l))
   name_held (suc n) q a l e f = go (λ k. name_held n q a k e f) (eq-or-lt_of_le l)
@@ -98,7 +98,7 @@ module _ (p : ℕ) (x : Triple) (own : ℕ → Own) where
       go : (q < n → In a.tag.0 (held p x own n)) → (suc q ≡ suc n) ⊎ (suc q < suc n) → In a.tag.0 (in_name p (own n).named ++ (in_read p (own n).old (own n).place ++ held p x own n))
       go rec (inl g) =
           in_left a.tag.0 (in_name p (own n).named) (in_read p (own n).old (own n).place ++ held p x own n)
-          (subst (λ (b : Named). In a.tag.0 (in_name p b)) (sym e ∙ ap (λ (k : ℕ). (own k).named) (same g)) (owned p a.process.0 a.tag.0 f))
+          (subst (λ (b : Option Announced). In a.tag.0 (in_name p b)) (sym e ∙ ap (λ (k : ℕ). (own k).named) (same g)) (owned p a.process.0 a.tag.0 f))
         where
           same : suc q ≡ suc n → q ≡ n
           same g = omega (arith, g)
@@ -106,15 +106,15 @@ module _ (p : ℕ) (x : Triple) (own : ℕ → Own) where
           in_right a.tag.0 (in_name p (own n).named) (in_read p (own n).old (own n).place ++ held p x own n)
           (in_right a.tag.0 (in_read p (own n).old (own n).place) (held p x own n) (rec (omega (arith, g))))
 
-  pub read_held : (n q : ℕ) (w : Triple) → q < n → Pending (own q).place → (own q).old ≡ Holds w → w.process.0 ≡ p → In w.tag.0 (held p x own n)
+  pub read_held : (n q : ℕ) (w : Triple) → q < n → Pending (own q).place → (own q).old ≡ Some w → w.process.0 ≡ p → In w.tag.0 (held p x own n)
   unfolding held
   read_held zero q w l h e f = absurd (omega (arith, l))
   read_held (suc n) q w l h e f = go (λ k. read_held n q w k h e f) (eq-or-lt_of_le l)
     where
-      mine : (old : Kept) (place : Place) → Pending place → old ≡ Holds w → In w.tag.0 (in_read p old place)
+      mine : (old : Option Triple) (place : Place) → Pending place → old ≡ Some w → In w.tag.0 (in_read p old place)
       mine old Idle i g = absurd i
       mine old Load1 i g = absurd i
-      mine old Load2 i g = subst (λ (k : Kept). In w.tag.0 (in_kept p k)) (sym g) (owned p w.process.0 w.tag.0 f)
+      mine old Load2 i g = subst (λ (k : Option Triple). In w.tag.0 (in_kept p k)) (sym g) (owned p w.process.0 w.tag.0 f)
       mine old Load3 i g = absurd i
       mine old (Store1 bit) i g = absurd i
       mine old Store2 i g = absurd i

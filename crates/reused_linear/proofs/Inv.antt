@@ -10,7 +10,7 @@ use lib.ListN.{length}
 use borrow.Author.Tests.{eqb-true, eqb-false}
 use Rattle.word.specs.Word.{put}
 use Rattle.reused.specs.Steps.{announced_of}
-use Rattle.reused_linear.specs.Types.{Triple, Announced, Names, Holds, Place, Idle, Load1, Load2, Load3, Store1, Store2, Check1, Own}
+use Rattle.reused_linear.specs.Types.{Triple, Announced, Some, Place, Idle, Load1, Load2, Load3, Store1, Store2, Check1, Own}
 use Rattle.reused_linear.specs.Arcs.{way}
 use Rattle.reused_linear.specs.Safe.{Safe}
 use Rattle.reused_linear.specs.Claims.{at_choice, OutsideLoad}
@@ -56,8 +56,8 @@ owner_of o = record { tag = o.tag.0; start = o.start.0; search = o.search.0; mor
 -- old and check both hold w, and no load is under way
 pub record Linked (o : Own) (w : Triple) : Type 0 where
   pub still : OutsideLoad o.place
-  pub old : o.old ≡ Holds w
-  pub check : o.check ≡ Holds w
+  pub old : o.old ≡ Some w
+  pub check : o.check ≡ Some w
 
 -- how many tags of the safe interval are used up
 abbrev pub used : ℕ → Owner → Safe → ℕ
@@ -65,9 +65,9 @@ used M v s = way M s.start v.tag + v.more
 
 -- One process: its notes are in range, a load past its first step has an old, and what it has read is announced.
 pub record Shape (N M : ℕ) (o : Own) : Type 0 where
-  pub named : (a : Announced) → o.named ≡ Names a → (a.tag.0 < M) × (a.process.0 < N)
-  pub old : (w : Triple) → o.old ≡ Holds w → (w.tag.0 < M) × (w.process.0 < N)
-  pub loads : Loading o.place → (w : Triple) × (o.old ≡ Holds w)
+  pub named : (a : Announced) → o.named ≡ Some a → (a.tag.0 < M) × (a.process.0 < N)
+  pub old : (w : Triple) → o.old ≡ Some w → (w.tag.0 < M) × (w.process.0 < N)
+  pub loads : Loading o.place → (w : Triple) × (o.old ≡ Some w)
   pub shown : Shown o.place → o.named ≡ announced_of o.old
 
 -- One owner. `left` is how many jumps may still come; h holds the places, from the next start on, of the tags that were held when the safe
@@ -94,8 +94,8 @@ pub record AtX (D M : ℕ) (x : Triple) (v : Owner) (s : Safe) (h : List ℕ) (p
 -- An owner p and a reader q. What q announces or is about to announce is in h from the next start on. If q is linked to a tag of p: once
 -- p has looked at q's place, the tag is not in the interval that p looks at; and it is none of those that p has still to use.
 pub record Pair (D M : ℕ) (v : Owner) (s : Safe) (h : List ℕ) (p : ℕ) (o : Own) (q : ℕ) : Type 0 where
-  pub named : (a : Announced) → o.named ≡ Names a → a.process.0 ≡ p → way M s.start v.start ≤ way M s.start a.tag.0 → In (way M s.start a.tag.0) h
-  pub read : (w : Triple) → Pending o.place → o.old ≡ Holds w → w.process.0 ≡ p → way M s.start v.start ≤ way M s.start w.tag.0 → In (way M s.start w.tag.0) h
+  pub named : (a : Announced) → o.named ≡ Some a → a.process.0 ≡ p → way M s.start v.start ≤ way M s.start a.tag.0 → In (way M s.start a.tag.0) h
+  pub read : (w : Triple) → Pending o.place → o.old ≡ Some w → w.process.0 ≡ p → way M s.start v.start ≤ way M s.start w.tag.0 → In (way M s.start w.tag.0) h
   pub seen : (w : Triple) → Linked o w → w.process.0 ≡ p → q < v.search → D ≤ way M v.start w.tag.0
   pub unused : (w : Triple) → Linked o w → w.process.0 ≡ p → used M v s ≤ way M s.start w.tag.0 → D ≤ way M s.start w.tag.0
 

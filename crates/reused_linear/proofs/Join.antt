@@ -18,11 +18,12 @@ use Rattle.word.proofs.Stages.{gone, closed}
 use Rattle.word.proofs.Aside.{Undecided, end_link, Aside, aside_same, aside_snoc, aside_load, link_snoc, link_load, undecided_on, loading_on}
 use Rattle.reused.specs.Steps.{is_kept, all_equal, none_stored, stored_of, load1, load2, load3}
 use Rattle.reused.specs.Steps as steps
-use Rattle.reused_linear.specs.Types.{Process, Triple, Kept, Holds, Stored, Place, Idle, Load1, Load2, Load3, Store1, Store2}
+use Rattle.reused_linear.specs.Types.{Process, Triple, Option, Some, Stored, Place, Idle, Load1, Load2, Load3, Store1, Store2}
 use Rattle.reused_linear.specs.Types as types
 use Rattle.reused_linear.specs.Claims.{OutsideLoad}
 use Rattle.reused_linear.proofs.Inv.{Loading, Linked}
-use Rattle.reused_linear.proofs.Readers.{Calm, same_triple_lem}
+use Rattle.std.proofs.lemmas.Option.{same_Some}
+use Rattle.reused_linear.proofs.Readers.{Calm}
 use Rattle.reused_linear.proofs.Side.{top, value_at, Sees, OpenAt, process_of, Side, Sim, sees_on, sees_change, sees_calm, call_on, same_self, kept_is, test_link}
 
 at_one : {k n : ℕ} → at k ≡ at n → k ≡ n
@@ -51,7 +52,7 @@ module _ {n : ℕ} {x : Triple} {own : ℕ → types.Own} {c : Calls Stored} (s 
     -- An entry of p: what is new of p, and how the others go on.
     sim_on : (x' : Triple) (o' : types.Own) (c' : Calls Stored) (order' : List (Call Stored)) (seen' : Link) → c'.now ≡ suc c.now
         → ((q : ℕ) → q ≢ p.0 → c'.asked q ≡ c.asked q) → ((q : ℕ) → q ≢ p.0 → c'.op q ≡ c.op q) → ((q : ℕ) → c'.word q ≡ 0)
-        → Good none_stored (suc c.now) order' c'.played → value_at (top order') order' ≡ stored_of (Holds x')
+        → Good none_stored (suc c.now) order' c'.played → value_at (top order') order' ≡ stored_of (Some x')
         → ((q : ℕ) → q < n → Sees s.order x (own q) (s.seen q) → Sees order' x' (own q) (s.seen q))
         → ((q : ℕ) → q ≢ p.0 → Aside none_stored 0 c.now s.order order' q)
         → Side (suc c.now) order' x' p.0 (c'.asked p.0) (c'.op p.0) o' seen'
@@ -121,7 +122,7 @@ module _ {n : ℕ} {x : Triple} {own : ℕ → types.Own} {c : Calls Stored} (s 
           sees =
               record {
                 low = λ k f. omega (arith, at_one f);
-                values = λ k w f g. subst₂ (λ (i : ℕ) (y : Triple). value_at i s.order ≡ stored_of (Holds y)) (at_one f) (same_triple_lem g) s.current;
+                values = λ k w f g. subst₂ (λ (i : ℕ) (y : Triple). value_at i s.order ≡ stored_of (Some y)) (at_one f) (same_Some _ _ g) s.current;
                 loads = λ h. (top s.order, refl);
                 inside = λ h f. refl;
                 outside = λ h. absurd h;
@@ -236,7 +237,7 @@ module _ {n : ℕ} {x : Triple} {own : ℕ → types.Own} {c : Calls Stored} (s 
         values k h = value_snoc 0 k none_stored s.order new h
 
     -- A load answered now with the value of change k, not older than the one that its step 1 has seen; its link is k.
-    sim_load : (k : ℕ) (w : Triple) → (own p.0).place ≡ Load3 → (own p.0).old ≡ Holds w → k ≤ top s.order → value_at k s.order ≡ stored_of (Holds w)
+    sim_load : (k : ℕ) (w : Triple) → (own p.0).place ≡ Load3 → (own p.0).old ≡ Some w → k ≤ top s.order → value_at k s.order ≡ stored_of (Some w)
         → ((i : ℕ) → s.seen p.0 ≡ at i → i ≤ k) → Sees s.order x (load3 x (own p.0)).own (at k)
         → Sim n x (put p.0 (load3 x (own p.0)).own own) (closed c p.0 (value (stored_of (own p.0).old)) false)
     sim_load k w e old low val newer sees =
@@ -279,7 +280,7 @@ module _ {n : ℕ} {x : Triple} {own : ℕ → types.Own} {c : Calls Stored} (s 
             ∙ ap (λ (u : Stored). load_call (c.asked p.0) c.now p.0 0 u) (ap stored_of old ∙ sym val)
 
     -- Step 3 of a load: if old is X, the load takes effect now; else where its step 1 was.
-    pub sim_3 : (own p.0).place ≡ Load3 → (w : Triple) × ((own p.0).old ≡ Holds w) → Sim n x (put p.0 (load3 x (own p.0)).own own) (closed c p.0 (value (stored_of (own p.0).old)) false)
+    pub sim_3 : (own p.0).place ≡ Load3 → (w : Triple) × ((own p.0).old ≡ Some w) → Sim n x (put p.0 (load3 x (own p.0)).own own) (closed c p.0 (value (stored_of (own p.0).old)) false)
     sim_3 e has = go (is_kept (own p.0).old x) refl
       where
         here : Loading (own p.0).place
@@ -290,11 +291,11 @@ module _ {n : ℕ} {x : Triple} {own : ℕ → types.Own} {c : Calls Stored} (s 
 
         go : (t : Bool) → is_kept (own p.0).old x ≡ t → Sim n x (put p.0 (load3 x (own p.0)).own own) (closed c p.0 (value (stored_of (own p.0).old)) false)
         go true same =
-            let old : (own p.0).old ≡ Holds x = kept_is (own p.0).old x same in
+            let old : (own p.0).old ≡ Some x = kept_is (own p.0).old x same in
             sim_load (top s.order) x e old (omega arith) s.current (λ i f. sees.low i f)
             (record {
               low = λ k f. omega (arith, at_one f);
-              values = λ k w f g. subst₂ (λ (i : ℕ) (y : Triple). value_at i s.order ≡ stored_of (Holds y)) (at_one f) (same_triple_lem (sym old ∙ g)) s.current;
+              values = λ k w f g. subst₂ (λ (i : ℕ) (y : Triple). value_at i s.order ≡ stored_of (Some y)) (at_one f) (same_Some _ _ (sym old ∙ g)) s.current;
               loads = λ h. absurd h;
               inside = λ h. absurd h;
               outside = λ h f. (old, refl);
@@ -302,10 +303,10 @@ module _ {n : ℕ} {x : Triple} {own : ℕ → types.Own} {c : Calls Stored} (s 
             })
         go false other = known (sees.loads here) has
           where
-            not_x : (own p.0).old ≡ Holds x → ⊥
-            not_x f = false≢true (sym other ∙ ap (λ (k : Kept). is_kept k x) f ∙ same_self x)
+            not_x : (own p.0).old ≡ Some x → ⊥
+            not_x f = false≢true (sym other ∙ ap (λ (k : Option Triple). is_kept k x) f ∙ same_self x)
 
-            known : (k : ℕ) × (s.seen p.0 ≡ at k) → (w : Triple) × ((own p.0).old ≡ Holds w) → Sim n x (put p.0 (load3 x (own p.0)).own own) (closed c p.0 (value (stored_of (own p.0).old)) false)
+            known : (k : ℕ) × (s.seen p.0 ≡ at k) → (w : Triple) × ((own p.0).old ≡ Some w) → Sim n x (put p.0 (load3 x (own p.0)).own own) (closed c p.0 (value (stored_of (own p.0).old)) false)
             known (k, f) (w, g) =
                 sim_load k w e g (sees.low k f) (sees.values k w f g) (λ i h. omega (arith, at_one (sym h ∙ f)))
                 (record {

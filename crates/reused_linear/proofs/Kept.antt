@@ -13,7 +13,7 @@ use Rattle.word.proofs.Put.{put_id}
 use Rattle.reused.specs.Circle.{interval_of, arc}
 use Rattle.reused.specs.Steps.{at, all_equal, announced_of, hits, hit, passed, renewed, chosen, step_at, step_of, idle, first_place, load1, load2, load3}
 use Rattle.reused.specs.Called.{parts_after}
-use Rattle.reused_linear.specs.Types.{Process, Triple, Announced, Named, Nobody, Names, Holds, Place, Idle, Load1, Load2, Load3, Store1, Store2, Check1, Own, Ask, Taken, GoesOn, NotDone, CallOpen, Request, Load, Store, Check, Requested, Stepped}
+use Rattle.reused_linear.specs.Types.{Process, Triple, Announced, Option, None, Some, Place, Idle, Load1, Load2, Load3, Store1, Store2, Check1, Own, Ask, Taken, GoesOn, NotDone, CallOpen, Request, Load, Store, Check, Requested, Stepped}
 use Rattle.reused_linear.specs.Arcs.{way}
 use Rattle.reused_linear.specs.Safe.{Safe, safe_chosen, safe_step}
 use Rattle.reused_linear.proofs.Circle.{and_true, arc_way, no_arc}
@@ -122,14 +122,14 @@ module _ {N D M : ℕ} {x : Triple} {own : ℕ → Own} {safe : ℕ → Safe} {h
 
 -- The second step of a store: what it has looked at.
 module _ (N M : ℕ) (p : Process) (o : Own) where
-  pub hits_yes : (looked : Named) → ((a : Announced) → looked ≡ Names a → a.tag.0 < M) → o.start.0 < M → interval_of N ≤ M → hits N M p o looked ≡ true
-      → (a : Announced) × (looked ≡ Names a) × (a.process.0 ≡ p.0) × (way M o.start.0 a.tag.0 < interval_of N)
-  hits_yes Nobody low start small e = absurd (false≢true e)
-  hits_yes (Names a) low start small e =
+  pub hits_yes : (looked : Option Announced) → ((a : Announced) → looked ≡ Some a → a.tag.0 < M) → o.start.0 < M → interval_of N ≤ M → hits N M p o looked ≡ true
+      → (a : Announced) × (looked ≡ Some a) × (a.process.0 ≡ p.0) × (way M o.start.0 a.tag.0 < interval_of N)
+  hits_yes None low start small e = absurd (false≢true e)
+  hits_yes (Some a) low start small e =
       let h = and_true (eqb a.process.0 p.0) (arc a.tag.0 o.start.0 (interval_of N) M) e in
       (a, refl, eqb-true a.process.0 p.0 h.0, arc_way a.tag.0 o.start.0 (interval_of N) (low a refl) start small h.1)
 
-  pub hits_no : (a : Announced) → a.tag.0 < M → o.start.0 < M → hits N M p o (Names a) ≡ false → a.process.0 ≡ p.0 → interval_of N ≤ way M o.start.0 a.tag.0
+  pub hits_no : (a : Announced) → a.tag.0 < M → o.start.0 < M → hits N M p o (Some a) ≡ false → a.process.0 ≡ p.0 → interval_of N ≤ way M o.start.0 a.tag.0
   hits_no a low start e f =
       no_arc a.tag.0 o.start.0 (interval_of N) low start
       (sym (ap (λ (t : Bool). t && arc a.tag.0 o.start.0 (interval_of N) M) (eq-eqb a.process.0 p.0 f)) ∙ e)
@@ -139,7 +139,7 @@ module _ {N M : ℕ} (sizes : Sizes N (interval_of N) M) {x : Triple} {own : ℕ
   abbrev o : Own
   o = own p.0
 
-  abbrev looked : Named
+  abbrev looked : Option Announced
   looked = (own o.search.0).named
 
   abbrev n : Nums N (interval_of N) M (owner_of o) (safe p.0) (hs p.0)
@@ -152,8 +152,8 @@ module _ {N M : ℕ} (sizes : Sizes N (interval_of N) M) {x : Triple} {own : ℕ
   clear : hits N M p o looked ≡ false → (q : ℕ) → q < N → (w : Triple) → Linked (own q) w → w.process.0 ≡ p.0 → q ≡ o.search.0 → interval_of N ≤ way M o.start.0 w.tag.0
   clear none q l w linked who same =
       let shape = inv.shapes q l in
-      let named : (own q).named ≡ announced_of (Holds w) = shape.shown (still_shown (own q).place linked.still) ∙ ap announced_of linked.old in
-      let there : looked ≡ Names (record { process = w.process; tag = w.tag }) = ap (λ (k : ℕ). (own k).named) (sym same) ∙ named in
+      let named : (own q).named ≡ announced_of (Some w) = shape.shown (still_shown (own q).place linked.still) ∙ ap announced_of linked.old in
+      let there : looked ≡ Some (record { process = w.process; tag = w.tag }) = ap (λ (k : ℕ). (own k).named) (sym same) ∙ named in
       hits_no N M p o (record { process = w.process; tag = w.tag }) (shape.old w linked.old).0 n.start (sym (ap (hits N M p o) there) ∙ none) who
 
   -- The three arms of the choice.

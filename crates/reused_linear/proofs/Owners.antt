@@ -8,7 +8,7 @@ use native.Mathlib.Nat.{eq-or-lt_of_le}
 use native.Mathlib.Omega.{arith}
 use lib.ListN.{length, length-map}
 use Rattle.reused.specs.Circle.{ahead}
-use Rattle.reused_linear.specs.Types.{Triple, Announced, Names, Holds, Own}
+use Rattle.reused_linear.specs.Types.{Triple, Announced, Some, Own}
 use Rattle.reused_linear.specs.Arcs.{way}
 use Rattle.reused_linear.specs.Safe.{Safe}
 use Rattle.reused_linear.proofs.Circle.{way_self, way_ahead, ahead_below, in_window, before_window}
@@ -226,8 +226,8 @@ module _ {N D M : ℕ} (sizes : Sizes N D M) where
         go (inl g) = before_window s.start v.start x.tag.0 D n.safe n.start low start_room (omega (arith, g, one, tag_safe, start_behind))
         go (inr (g, l)) = absurd (omega (arith, g, one))
 
-    pub pair_new : {p : ℕ} {o : Own} {q : ℕ} (tags : List ℕ) → ((b : Announced) → o.named ≡ Names b → b.process.0 ≡ p → In b.tag.0 tags)
-        → ((w : Triple) → Pending o.place → o.old ≡ Holds w → w.process.0 ≡ p → In w.tag.0 tags)
+    pub pair_new : {p : ℕ} {o : Own} {q : ℕ} (tags : List ℕ) → ((b : Announced) → o.named ≡ Some b → b.process.0 ≡ p → In b.tag.0 tags)
+        → ((w : Triple) → Pending o.place → o.old ≡ Some w → w.process.0 ≡ p → In w.tag.0 tags)
         → ((w : Triple) → Linked o w → w.process.0 ≡ p → q ≡ v.search → D ≤ way M v.start w.tag.0)
         → q ≤ v.search → Pair D M v s h p o q → Pair D M (new_owner D M v) (new_safe v) (new_places M v tags) p o q
     pair_new {p} {o} {q} tags named read clear last a =

@@ -2,12 +2,12 @@
 -- Assumes nothing.
 use Prim.Native.Nat.{ℕ, ◌+◌, ◌≤◌, ◌<◌}
 use mathlib.Core.Path.{◌≡◌, refl, sym, ap, ◌∙◌, subst}
-use mathlib.Core.Bool.{Bool, true, false, false≢true}
 use mathlib.Core.Logic.{◌⊎◌, inl, inr}
 use mathlib.Core.List.{List}
 use native.Mathlib.Omega.{arith}
+use Rattle.std.proofs.lemmas.Option.{none-some, same_Some}
 use Rattle.reused.specs.Steps.{announced_of, load1, load2, load3}
-use Rattle.reused_linear.specs.Types.{Triple, Announced, Named, Nobody, Names, Kept, Nothing, Holds, Place, Idle, Load1, Load2, Load3, Store1, Store2, Check1, Own}
+use Rattle.reused_linear.specs.Types.{Triple, Announced, Option, None, Some, Place, Idle, Load1, Load2, Load3, Store1, Store2, Check1, Own}
 use Rattle.reused_linear.specs.Arcs.{way}
 use Rattle.reused_linear.specs.Safe.{Safe}
 use Rattle.reused_linear.proofs.Circle.{before_window}
@@ -17,31 +17,12 @@ use Rattle.reused_linear.specs.Claims.{at_choice, OutsideLoad}
 use Rattle.reused_linear.proofs.Inv.{Sizes, Loading, Shown, Owner, Linked, used, Shape, Nums, AtX, Pair}
 use Rattle.reused_linear.proofs.Owners.{tag_safe, start_behind, start_room}
 
-pub same_triple_lem : {w x : Triple} → Holds w ≡ Holds x → w ≡ x
-same_triple_lem e = cc e
-
--- nobody is no name, and nothing no triple
-pub names_not : {a : Announced} → Nobody ≡ Names a → ⊥
-names_not e = false≢true (ap names e)
-  where
-    names : Named → Bool
-    names Nobody = false
-    names (Names b) = true
-
-pub holds_not : {w : Triple} → Nothing ≡ Holds w → ⊥
-holds_not e = false≢true (ap holds e)
-  where
-    holds : Kept → Bool
-    holds Nothing = false
-    holds (Holds w) = true
-
 -- what old announces is old's tag and process
-pub announced : (old : Kept) (a : Announced) → announced_of old ≡ Names a → (w : Triple) × (old ≡ Holds w) × (w.tag.0 ≡ a.tag.0) × (w.process.0 ≡ a.process.0)
-announced Nothing a e = absurd (names_not e)
-announced (Holds w) a e = (w, refl, ap (λ (b : Announced). b.tag.0) (same e), ap (λ (b : Announced). b.process.0) (same e))
-  where
-    same : {b c : Announced} → Names b ≡ Names c → b ≡ c
-    same e = cc e
+pub announced : (old : Option Triple) (a : Announced) → announced_of old ≡ Some a → (w : Triple) × (old ≡ Some w) × (w.tag.0 ≡ a.tag.0) × (w.process.0 ≡ a.process.0)
+announced None a e = absurd (none-some a e)
+announced (Some w) a e =
+    let same = same_Some _ a e in
+    (w, refl, ap (λ (b : Announced). b.tag.0) same, ap (λ (b : Announced). b.process.0) same)
 
 pub extra_low : (place : Place) → at_choice place ≤ 1
 extra_low Idle = omega arith
@@ -114,7 +95,7 @@ pub shape_1 : {N M : ℕ} (x : Triple) (o : Own) → x.tag.0 < M → x.process.0
 shape_1 {N} {M} x o low who s =
     record {
       named = s.named;
-      old = λ w e. subst (λ (y : Triple). (y.tag.0 < M) × (y.process.0 < N)) (same_triple_lem e) (low, who);
+      old = λ w e. subst (λ (y : Triple). (y.tag.0 < M) × (y.process.0 < N)) (same_Some _ _ e) (low, who);
       loads = λ l. (x, refl);
       shown = λ t. absurd t;
     }
@@ -124,7 +105,7 @@ pair_1 {D} {M} {v} {s} {h} {p} x o {q} ax a =
     record {
       named = a.named;
       read = λ w l e.
-          subst (λ (y : Triple). y.process.0 ≡ p → way M s.start v.start ≤ way M s.start y.tag.0 → In (way M s.start y.tag.0) h) (same_triple_lem e) ax.known;
+          subst (λ (y : Triple). y.process.0 ≡ p → way M s.start v.start ≤ way M s.start y.tag.0 → In (way M s.start y.tag.0) h) (same_Some _ _ e) ax.known;
       seen = λ w l. absurd l.still;
       unused = λ w l. absurd l.still;
     }
@@ -163,9 +144,9 @@ pair_3 {N} {D} {M} sizes {v} {s} {h} {p} x o {q} n few low ax a =
     record {
       named = a.named;
       read = λ w l. absurd l;
-      seen = λ w l e i. subst (λ (y : Triple). y.process.0 ≡ p → D ≤ way M v.start y.tag.0) (same_triple_lem l.check) (λ f. looked i (ax.last f)) e;
+      seen = λ w l e i. subst (λ (y : Triple). y.process.0 ≡ p → D ≤ way M v.start y.tag.0) (same_Some _ _ l.check) (λ f. looked i (ax.last f)) e;
       unused = λ w l e.
-          subst (λ (y : Triple). y.process.0 ≡ p → used M v s ≤ way M s.start y.tag.0 → D ≤ way M s.start y.tag.0) (same_triple_lem l.check) (λ f. behind (ax.last f)) e;
+          subst (λ (y : Triple). y.process.0 ≡ p → used M v s ≤ way M s.start y.tag.0 → D ≤ way M s.start y.tag.0) (same_Some _ _ l.check) (λ f. behind (ax.last f)) e;
     }
   where
     looked : q < v.search → (way M s.start x.tag.0 + 1 ≡ used M v s) ⊎ ((used M v s ≡ 0) × (D ≤ way M s.start x.tag.0)) → D ≤ way M v.start x.tag.0

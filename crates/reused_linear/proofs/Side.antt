@@ -14,7 +14,7 @@ use Rattle.word.proofs.Changes.{total, value_after}
 use Rattle.word.proofs.Good.{Good}
 use Rattle.word.proofs.Aside.{Undecided, LateFor, end_link, Aside, undecided_on, loading_on}
 use Rattle.reused.specs.Steps.{same_bit, same_triple, is_kept, both_keep, all_equal, none_stored, stored_of}
-use Rattle.reused_linear.specs.Types.{Process, Triple, Kept, Nothing, Holds, Stored, Place, Idle, Load1, Load2, Load3, Store1, Store2, Check1, Own}
+use Rattle.reused_linear.specs.Types.{Process, Triple, Option, None, Some, Stored, Place, Idle, Load1, Load2, Load3, Store1, Store2, Check1, Own}
 use Rattle.reused_linear.proofs.Circle.{and_true}
 use Rattle.reused_linear.specs.Claims.{OutsideLoad}
 use Rattle.reused_linear.proofs.Inv.{Loading, Linked}
@@ -31,10 +31,10 @@ value_at k order = value_after 0 k none_stored order
 -- if old, check and X are equal. The one direction, `newest`, is what (W1) is for.
 pub record Sees (order : List (Call Stored)) (x : Triple) (o : Own) (seen : Link) : Type 0 where
   pub low : (k : ℕ) → seen ≡ at k → k ≤ top order
-  pub values : (k : ℕ) (w : Triple) → seen ≡ at k → o.old ≡ Holds w → value_at k order ≡ stored_of (Holds w)
+  pub values : (k : ℕ) (w : Triple) → seen ≡ at k → o.old ≡ Some w → value_at k order ≡ stored_of (Some w)
   pub loads : Loading o.place → (k : ℕ) × (seen ≡ at k)
-  pub inside : Loading o.place → seen ≡ at (top order) → o.old ≡ Holds x
-  pub outside : OutsideLoad o.place → seen ≡ at (top order) → (o.old ≡ Holds x) × (o.check ≡ Holds x)
+  pub inside : Loading o.place → seen ≡ at (top order) → o.old ≡ Some x
+  pub outside : OutsideLoad o.place → seen ≡ at (top order) → (o.old ≡ Some x) × (o.check ≡ Some x)
   pub newest : Linked o x → seen ≡ at (top order)
 
 -- the open call of q, by place; from the first step of a store that is done on, it is decided
@@ -62,7 +62,7 @@ pub record Sim (n : ℕ) (x : Triple) (own : ℕ → Own) (c : Calls Stored) : T
   pub order : List (Call Stored)
   pub seen : ℕ → Link
   pub good : Good none_stored c.now order c.played
-  pub current : value_at (top order) order ≡ stored_of (Holds x)
+  pub current : value_at (top order) order ≡ stored_of (Some x)
   pub one : (q : ℕ) → c.word q ≡ 0
   pub sides : (q : ℕ) → q < n → Side c.now order x q (c.asked q) (c.op q) (own q) (seen q)
 
@@ -141,19 +141,19 @@ triple_same a b e =
 pub same_self : (a : Triple) → same_triple a a ≡ true
 same_self a = rw (eq-eqb a.tag.0 a.tag.0 refl, eq-eqb a.process.0 a.process.0 refl, bit_same a.bit)
 
-pub kept_is : (k : Kept) (x : Triple) → is_kept k x ≡ true → k ≡ Holds x
-kept_is Nothing x e = absurd (false≢true e)
-kept_is (Holds w) x e = ap Holds (triple_same w x e)
+pub kept_is : (k : Option Triple) (x : Triple) → is_kept k x ≡ true → k ≡ Some x
+kept_is None x e = absurd (false≢true e)
+kept_is (Some w) x e = ap Some (triple_same w x e)
 
-pub equal_all : (x : Triple) (o : Own) → all_equal x o ≡ true → (o.old ≡ Holds x) × (o.check ≡ Holds x)
+pub equal_all : (x : Triple) (o : Own) → all_equal x o ≡ true → (o.old ≡ Some x) × (o.check ≡ Some x)
 equal_all x o e = go o.old refl (and_true (both_keep o.old o.check) (is_kept o.old x) e)
   where
-    go : (k : Kept) → o.old ≡ k → (both_keep o.old o.check ≡ true) × (is_kept o.old x ≡ true) → (o.old ≡ Holds x) × (o.check ≡ Holds x)
+    go : (k : Option Triple) → o.old ≡ k → (both_keep o.old o.check ≡ true) × (is_kept o.old x ≡ true) → (o.old ≡ Some x) × (o.check ≡ Some x)
     go k f (both, is) =
-        let old : o.old ≡ Holds x = kept_is o.old x is in
-        (old, kept_is o.check x (sym (ap (λ (k : Kept). both_keep k o.check) old) ∙ both))
+        let old : o.old ≡ Some x = kept_is o.old x is in
+        (old, kept_is o.check x (sym (ap (λ (k : Option Triple). both_keep k o.check) old) ∙ both))
 
-pub all_equal_lem : (x : Triple) (o : Own) → o.old ≡ Holds x → o.check ≡ Holds x → all_equal x o ≡ true
+pub all_equal_lem : (x : Triple) (o : Own) → o.old ≡ Some x → o.check ≡ Some x → all_equal x o ≡ true
 all_equal_lem x o f g = rw (f, g, same_self x)
 
 -- Outside a load the machine's test says whether the word is linked: the link theorem.

@@ -17,7 +17,7 @@ use Rattle.reused.specs.State.{row_at, sound_sizes, sound, first_triple, first_s
 use Rattle.reused.specs.Called.{entered, called}
 use Rattle.reused.specs.Run.{after}
 use Rattle.reused.specs.Table.{LL, pairs, triple}
-use Rattle.reused_linear.specs.Types.{Stored, Entry, Kind, Ask, Step, Load, Store, Check, Nobody, Holds, Idle, Store2, Own, State}
+use Rattle.reused_linear.specs.Types.{Stored, Entry, Kind, Ask, Step, Load, Store, Check, None, Some, Idle, Store2, Own, State}
 use Rattle.reused_linear.specs.Arcs.{way}
 use Rattle.reused_linear.specs.Safe.{Safe, end_safe, first_safe, safe_after}
 use Rattle.reused_linear.specs.Claims.{Claims}
@@ -120,11 +120,11 @@ never_stored h = some_first none_stored _ _ ((λ e. omega (arith, ap answer_numb
 -- States that the three claims exclude. N 1, M 12: process 0 is linked to tag 0 and is about to use it.
 abbrev row : ℕ → ℕ → ℕ → Own
 row tag start search =
-    record { named = Nobody; old = Holds first_triple; check = Holds first_triple; tag = record { 0 = tag }; start = record { 0 = start }; search = record { 0 = search }; place = Idle }
+    record { named = None; old = Some first_triple; check = Some first_triple; tag = record { 0 = tag }; start = record { 0 = start }; search = record { 0 = search }; place = Idle }
 
 abbrev choosing : ℕ → Own
 choosing tag =
-    record { named = Nobody; old = Holds first_triple; check = Holds first_triple; tag = record { 0 = tag }; start = record { 0 = 10 }; search = record { 0 = 0 }; place = Store2 }
+    record { named = None; old = Some first_triple; check = Some first_triple; tag = record { 0 = tag }; start = record { 0 = 10 }; search = record { 0 = 0 }; place = Store2 }
 
 abbrev from_zero : ℕ → ℕ → Safe
 from_zero jump p = record { start = 0; jump = jump }
@@ -151,8 +151,8 @@ abbrev round_state : State
 round_state = after (first_state 2 60) round_run
 
 pub record LinkedToTheEnd : Type 0 where
-  pub old : (row_at round_state 1).old ≡ Holds (triple 10 0 false)
-  pub check : (row_at round_state 1).check ≡ Holds (triple 10 0 false)
+  pub old : (row_at round_state 1).old ≡ Some (triple 10 0 false)
+  pub check : (row_at round_state 1).check ≡ Some (triple 10 0 false)
   pub outside : (row_at round_state 1).place ≡ Idle
   pub safe : safe_after (first_state 2 60) first_safe round_run 0 ≡ record { start = 0; jump = 0 }
   pub last : end_safe 2 60 (safe_after (first_state 2 60) first_safe round_run 0) ≡ 10

@@ -13,7 +13,7 @@ use Rattle.reused_linear.specs.Arcs.{way}
 use Rattle.reused_linear.specs.Safe.{first_safe}
 use Rattle.reused_linear.proofs.Circle.{way_one}
 use Rattle.reused_linear.proofs.Inv.{Sizes, owner_of, Shape, Nums, AtX, Pair, Inv}
-use Rattle.reused_linear.proofs.Readers.{names_not, holds_not}
+use Rattle.std.proofs.lemmas.Option.{none-some}
 use Rattle.reused_linear.proofs.Owners.{some_tags, at_x_other_lem}
 
 module _ {N D M : ℕ} (sizes : Sizes N D M) where
@@ -36,7 +36,7 @@ module _ {N D M : ℕ} (sizes : Sizes N D M) where
 
   shape_first : (t : ℕ) → Shape N M (first_row t D)
   shape_first t =
-      record { named = λ a e. absurd (names_not e); old = λ w e. absurd (holds_not e); loads = λ l. absurd l; shown = λ h. refl }
+      record { named = λ a e. absurd (none-some _ e); old = λ w e. absurd (none-some _ e); loads = λ l. absurd l; shown = λ h. refl }
 
   nums_first : (t p : ℕ) → t ≤ 1 → Nums N D M (owner_of (first_row t D)) (first_safe p) []
   nums_first t p few = go N refl
@@ -74,10 +74,10 @@ module _ {N M : ℕ} (sizes : Sizes N (interval_of N) M) (few : N ≤ 16) where
   pair_any : (p q : ℕ) (v : Own) (u : ℕ) → Pair (interval_of N) M (owner_of v) (first_safe p) [] p (first_row u (interval_of N)) q
   pair_any p q v u =
       record {
-        named = λ a f. absurd (names_not f);
+        named = λ a f. absurd (none-some _ f);
         read = λ w l. absurd l;
-        seen = λ w l. absurd (holds_not l.old);
-        unused = λ w l. absurd (holds_not l.old);
+        seen = λ w l. absurd (none-some _ l.old);
+        unused = λ w l. absurd (none-some _ l.old);
       }
 
   rows : (P : Own → Type 0) → P (first_row 1 (interval_of N)) → P (first_row 0 (interval_of N)) → (q : ℕ) → q < N → P (row_at (first_state N M) q)

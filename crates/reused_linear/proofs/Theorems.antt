@@ -21,7 +21,7 @@ use Rattle.reused.proofs.Soundness as soundness
 use Rattle.reused.proofs.Soundness.{sizes_of_lem, sizes_fine, sure}
 use Rattle.reused.proofs.Writers.{row_same, row_other}
 use Rattle.reused.proofs.RunLaws.{ready_start, ready_played, played_ready}
-use Rattle.reused_linear.specs.Types.{Process, Triple, Holds, NoProcess, Own, Kind, Ask, Step, Stepped, State, Entry, Answer}
+use Rattle.reused_linear.specs.Types.{Process, Triple, Some, NoProcess, Own, Kind, Ask, Step, Stepped, State, Entry, Answer}
 use Rattle.reused_linear.specs.Arcs.{way, InArc}
 use Rattle.reused_linear.specs.Safe.{Safe, end_safe, first_safe, safe_by, safe_on, safe_after}
 use Rattle.reused_linear.specs.Claims.{at_choice, OutsideLoad, Claims}
@@ -117,7 +117,7 @@ module _ {st : State} {safe : ℕ → Safe} (steady : Steady st safe) where
       let on = way_ahead (safe p).start (safe p).start (interval_of st.n) n.safe n.safe (omega (arith, self, start_room sizes n, start_behind sizes n, some_tags sizes)) in
       omega (arith, self, on)
 
-  claim_1 : (r : ℕ) → r < st.n → (w : Triple) → OutsideLoad (row_at st r).place → (row_at st r).old ≡ Holds w → (row_at st r).check ≡ Holds w
+  claim_1 : (r : ℕ) → r < st.n → (w : Triple) → OutsideLoad (row_at st r).place → (row_at st r).old ≡ Some w → (row_at st r).check ≡ Some w
       → InArc st.m (ahead st.m (row_at st w.process.0).tag.0 (at_choice (row_at st w.process.0).place)) (end_safe st.n st.m (safe w.process.0)) w.tag.0
       → ⊥
   claim_1 r l w outside old check within =

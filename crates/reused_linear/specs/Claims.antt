@@ -6,7 +6,7 @@ use Rattle.reused.specs.Circle.{ahead}
 use Rattle.reused.specs.Steps.{hits}
 use Rattle.reused.specs.State.{row_at}
 use Rattle.reused.specs.Called.{looked_at}
-use Rattle.reused_linear.specs.Types.{Process, Triple, Holds, Place, Idle, Load1, Load2, Load3, Store1, Store2, Check1, State}
+use Rattle.reused_linear.specs.Types.{Process, Triple, Some, Place, Idle, Load1, Load2, Load3, Store1, Store2, Check1, State}
 use Rattle.reused_linear.specs.Arcs.{way, InArc}
 use Rattle.reused_linear.specs.Safe.{Safe, end_safe}
 
@@ -33,7 +33,7 @@ OutsideLoad Check1 = Unit {0}
 pub record Claims (st : State) (safe : ℕ → Safe) : Type 0 where
   -- (W1) "For a process r that has completed its LL operation and for which the old and chk values are equal, the tag field of old.r is
   -- not in the remaining safe interval of the process from the pid field of old.r": [tag.p ⊕ (#pc.p = 7), endSafe.p)
-  pub w1 : (r : ℕ) → r < st.n → (w : Triple) → OutsideLoad (row_at st r).place → (row_at st r).old ≡ Holds w → (row_at st r).check ≡ Holds w
+  pub w1 : (r : ℕ) → r < st.n → (w : Triple) → OutsideLoad (row_at st r).place → (row_at st r).old ≡ Some w → (row_at st r).check ≡ Some w
       → InArc st.m (ahead st.m (row_at st w.process.0).tag.0 (at_choice (row_at st w.process.0).place)) (end_safe st.n st.m (safe w.process.0)) w.tag.0
       → ⊥
   -- (W9) "under the conditions when a new tag is selected from the current safe interval, the end of the safe interval has not been reached

@@ -7,7 +7,7 @@ use Rattle.reused.specs.Steps.{hits}
 use Rattle.reused.specs.State.{row_at}
 use Rattle.reused.specs.Called.{looked_at}
 use Rattle.reused.specs.Run.{played}
-use Rattle.reused_linear.specs.Types.{Process, Named, Own, Kind, Ask, Step, Place, Idle, Load1, Load2, Load3, Store1, Store2, Check1, State, Entry}
+use Rattle.reused_linear.specs.Types.{Process, Option, Own, Kind, Ask, Step, Place, Idle, Load1, Load2, Load3, Store1, Store2, Check1, State, Entry, Announced}
 
 -- startSafe, "the beginning .. of the current safe interval"; jump, "the number of jumps in the search for the next safe interval"
 pub record Safe : Type 0 where
@@ -23,13 +23,13 @@ abbrev pub first_safe : ℕ → Safe
 first_safe p = record { start = 0; jump = 0 }
 
 -- Line 7. A hit: "jump ++". All places looked at: "jump := 0; startSafe := tag", which has just become nextStart.
-abbrev pub safe_chosen : ℕ → ℕ → Process → Own → Named → Safe → Safe
+abbrev pub safe_chosen : ℕ → ℕ → Process → Own → Option Announced → Safe → Safe
 safe_chosen n m p own looked s =
     cond (hits n m p own looked) (record { start = s.start; jump = suc s.jump })
     (cond (ltb (own.search.0 + 1) n) s (record { start = own.start.0; jump = 0 }))
 
 -- the other lines leave them
-abbrev pub safe_step : ℕ → ℕ → Process → Own → Named → Safe → Place → Safe
+abbrev pub safe_step : ℕ → ℕ → Process → Own → Option Announced → Safe → Place → Safe
 safe_step n m p own looked s Idle = s
 safe_step n m p own looked s Load1 = s
 safe_step n m p own looked s Load2 = s

@@ -23,7 +23,7 @@ use Rattle.reused.specs.Run.{played, note_of, steps_by, change_count}
 use Rattle.reused.proofs.Soundness.{sure, sizes}
 use Rattle.reused.proofs.RunLaws.{played_ready}
 use Rattle.reused.proofs.PartsOfRun.{parts_sound, called_by_parts}
-use Rattle.reused_text.specs.Types.{Process, Triple, Named, Own, Kept, Nothing, Holds, Place, Idle, Load1, Load2, Load3, Store1, Store2, Check1, Kind, Ask, Step, Outcome, Stepped, State, Entry, Note, NotDone, Yes, No, NoProcess, CallOpen, Taken, Requested, Answer}
+use Rattle.reused_text.specs.Types.{Process, Triple, Option, Own, None, Some, Place, Idle, Load1, Load2, Load3, Store1, Store2, Check1, Kind, Ask, Step, Outcome, Stepped, State, Entry, Note, NotDone, Yes, No, NoProcess, CallOpen, Taken, Requested, Answer, Announced}
 use Rattle.reused_text.specs.Form.{entry_in}
 use Rattle.reused_text.specs.Parts.{bit_entries_from}
 use Rattle.reused_text.specs.Played.{bit_number, in_log, seat_of, record_from}
@@ -104,11 +104,11 @@ module _ (st : State) (e : Entry) (h : Ready st) where
 
 -- A load's answer names a process that is there; any other outcome names 0.
 module _ (n m : ℕ) (some : 1 ≤ n) where
-  kept_below : (old : Kept) → sound_kept n m old ≡ true → (stored_of old).process.0 < n
-  kept_below Nothing e = some
-  kept_below (Holds w) e = ltb-true w.process.0 n ((and-eq-true_iff (sound_point m w.tag) (ltb w.process.0 n)).0 e).1
+  kept_below : (old : Option Triple) → sound_kept n m old ≡ true → (stored_of old).process.0 < n
+  kept_below None e = some
+  kept_below (Some w) e = ltb-true w.process.0 n ((and-eq-true_iff (sound_point m w.tag) (ltb w.process.0 n)).0 e).1
 
-  module _ (p : Process) (x : Triple) (own : Own) (looked : Named) (e : sound_kept n m own.old ≡ true) where
+  module _ (p : Process) (x : Triple) (own : Own) (looked : Option Announced) (e : sound_kept n m own.old ≡ true) where
     answer_below : (place : Place) → (told_of (step_at n m p x own looked place).outcome).stored.process.0 < n
     answer_below Idle = some
     answer_below Load1 = some

@@ -2,12 +2,11 @@
 pub use Rattle.numbers.specs.declared.Process.{Process}
 pub use Rattle.numbers.specs.declared.Version.{Version}
 pub use Rattle.run_log.specs.declared.Note.{Note}
+pub use Rattle.reused.specs.declared.Announced.{Announced}
 pub use Rattle.reused.specs.Types.{Entry}
-pub use Rattle.reused.specs.declared.Kept.{Kept}
-pub use Rattle.reused.specs.declared.Kept.TheVariants.{Nothing, Holds}
+pub use Rattle.std.specs.Prelude.{Option, None, Some}
 pub use Rattle.reused.specs.Types.{Kind}
 pub use Rattle.requests.specs.declared.Kind.TheVariants.{Ask, Step}
-pub use Rattle.reused.specs.declared.Named.{Named}
 pub use Rattle.reused.specs.declared.Outcome.{Outcome}
 pub use Rattle.reused.specs.declared.Outcome.TheVariants.{Taken, GoesOn, NotDone, Yes, No, NoProcess, CallOpen}
 pub use Rattle.reused.specs.declared.Answer.{Answer}

@@ -8,7 +8,6 @@ use crate::Next;
 use crate::form::read_bit_line;
 use numbers::{Process, Version};
 use reused::parts::{steps_by, x_changed};
-use reused::tell::tell;
 use reused::{Kind, Outcome, Place, Triple};
 use run_log::Note;
 use writer::find::place_of;
@@ -48,7 +47,7 @@ pub(crate) fn note_of(process: u8, kind: Kind, place: Place, outcome: Outcome) -
     requires { (told_of outcome).stored.process.0 < 256 }
     ensures { result ≡ record_from process kind place outcome }
 {
-    let told = tell(outcome);
+    let told = outcome.tell();
     let steps = steps_by(place, kind, outcome);
     let number = told.number;
     let stored = told.stored;

@@ -1,4 +1,4 @@
--- What the entry leaves of the parts, put back, is the state after it.
+-- The process and its search place have rows, and what the entry is given is sound.
 use Rattle.reused.proofs.PartsOfRun.{row_place, process_there, search_there, entry_given}
 use Rattle.reused.proofs.direct.enter.Goals as goal
 
@@ -14,8 +14,13 @@ offset_bounds-st-j c = row_place _ (search_there c.args.st c.args.p c.requires.0
 pub bounds-st-j : goal.bounds-st-j
 bounds-st-j c = search_there c.args.st c.args.p c.requires.0 c.requires.1
 
-pub parts_after-r-requires : goal.parts_after-r-requires
-parts_after-r-requires c = entry_given c.args.st c.args.p c.requires.0 c.requires.1
+pub invariant_of-turn : goal.invariant_of-turn
+invariant_of-turn c = record { in_range = (entry_given c.args.st c.args.p c.requires.0 c.requires.1).0 }
+
+pub invariant_of-turn-2 : goal.invariant_of-turn-2
+invariant_of-turn-2 c =
+    let given = entry_given c.args.st c.args.p c.requires.0 c.requires.1 in
+    record { own_sound = given.1; looked_sound = given.2 }
 
 pub offset_bounds-state-i : goal.offset_bounds-state-i
 offset_bounds-state-i c = row_place _ (process_there c.args.st c.args.p c.requires.0 c.requires.1)
