@@ -1,4 +1,5 @@
 pub mod Sizes
 pub mod Pieces
+pub mod Takers
 pub mod Answers
 pub mod Undone

@@ -2,3 +2,4 @@ pub mod Types
 pub mod Lister
 pub mod Undone
 pub mod Parts
+pub mod Taker

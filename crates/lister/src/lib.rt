@@ -3,7 +3,9 @@
 
 mod length;
 pub mod listing;
+mod page;
 mod put;
+mod taker;
 
 pub use listing::list_file;
 

@@ -1,12 +1,25 @@
 // A whole file.
-ghost use Rattle.std.specs.Prelude.{◌≡◌};
+ghost use Rattle.std.specs.Prelude.{◌≡◌, true, ◌≤◌, length};
+ghost use Rattle.std.proofs.lemmas.List.Edits.{sets};
 ghost use Rattle.schedule.specs.File.{reading};
+ghost use Rattle.schedule.specs.Direct.{is_accepted};
+ghost use Rattle.writer.specs.Made.{listing};
 ghost use Rattle.lister.specs.Lister.{listed_by, listed_in_by, listed_of, listed_in};
 
 use crate::Listed;
-use crate::length::{entries_length, start_length};
-use crate::put::{put_entries, put_start};
+use crate::length::Length;
+use crate::page::Page;
+use crate::put::put_text;
 use schedule::{Reading, read_file};
+
+// The text of an accepted file, at the front of a lent part that has room for it.
+fn lay_text(out: &mut [u8], file: &[u8], n: u8, s: u64, v: u64)
+    requires { (is_accepted (reading file.now) ≡ true) × (length (listing file.now n s v) ≤ length out.old) }
+    ensures { out.new ≡ sets out.old 0 (listing file.now n s v) }
+{
+    let mut page = Page { out, at: 0 };
+    put_text(&mut page, file, n, s, v);
+}
 
 // An accepted file.
 fn list_accepted(file: &[u8], out: &mut [u8], n: u8, s: u64, v: u64, entries: usize) -> Listed
@@ -14,9 +27,9 @@ fn list_accepted(file: &[u8], out: &mut [u8], n: u8, s: u64, v: u64, entries: us
     ensures { (result ≡ listed_by file.now out.old (Reading.Accepted n s v entries))
         × (out.new ≡ listed_in_by file.now out.old (Reading.Accepted n s v entries)) }
 {
-    let first = start_length(n, s, v);
-    let lines = entries_length(file);
-    let need = first + lines;
+    let mut length = Length { bytes: 0 };
+    put_text(&mut length, file, n, s, v);
+    let need = length.bytes;
     if out.len() < need {
         return Listed {
             number: 27,
@@ -25,8 +38,7 @@ fn list_accepted(file: &[u8], out: &mut [u8], n: u8, s: u64, v: u64, entries: us
             length: 0,
         };
     }
-    let at = put_start(out, n, s, v);
-    put_entries(out, at, file);
+    lay_text(out, file, n, s, v);
     Listed {
         number: 0,
         block: 0,

@@ -1,113 +1,84 @@
-// The lines of a text, each stored from a place of the lent part on; the answer is the place behind it.
-ghost use Rattle.std.specs.Prelude.{◌≡◌, true, [], ◌∷◌, ◌+◌, ◌/◌, ◌≤◌, ◌<◌, length};
-ghost use Rattle.requests.specs.declared.Kind.TheVariants.{Ask};
-ghost use Rattle.std.proofs.lemmas.List.Edits.{sets};
+// The lines of a text, told to what takes them.
+ghost use Rattle.std.specs.Prelude.{◌≡◌, true, ◌+◌, ◌/◌, ◌<◌, length};
 ghost use Rattle.schedule.specs.File.{reading, file_entries};
 ghost use Rattle.schedule.specs.Direct.{is_accepted, part_entries};
-ghost use Rattle.writer.specs.Made.{kind_line, entry_line, entry_lines, start_line};
+ghost use Rattle.writer.specs.Made.{entry_line, entry_lines, start_line, listing};
 ghost use Rattle.lister.specs.Parts.{plain_line, store_line};
 
+use crate::taker::Taker;
 use schedule::{block_of, entry_at, used_entries};
 use step::{Entry, Kind, Request};
-use text::field::write_field;
-
-// A line's letter and the space behind it.
-fn put_letter(out: &mut [u8], at: usize, letter: u8) -> usize
-    requires { at + 2 ≤ length out.old }
-    ensures { (result ≡ at + length (letter ∷ 32 ∷ [])) × (out.new ≡ sets out.old at (letter ∷ 32 ∷ [])) }
-{
-    let next = at + 1;
-    out[at] = letter;
-    out[next] = 32;
-    next + 1
-}
 
 // `L p`, `V p` or `T p`.
-fn put_plain(out: &mut [u8], at: usize, letter: u8, p: u64) -> usize
-    requires { at + length (plain_line letter p) ≤ length out.old }
-    ensures { (result ≡ at + length (plain_line letter p)) × (out.new ≡ sets out.old at (plain_line letter p)) }
+fn put_plain<T: Taker>(to: &mut T, letter: u8, p: u64)
+    requires { T.fits to.old (length (plain_line letter p)) }
+    ensures { T.takes to.old (plain_line letter p) to.new }
 {
-    let next = put_letter(out, at, letter);
-    write_field(out, next, p, 10)
+    to.letter(letter);
+    to.number(p, b'\n');
 }
 
 // `S p value`.
-fn put_store(out: &mut [u8], at: usize, p: u64, v: u64) -> usize
-    requires { at + length (store_line p v) ≤ length out.old }
-    ensures { (result ≡ at + length (store_line p v)) × (out.new ≡ sets out.old at (store_line p v)) }
+fn put_store<T: Taker>(to: &mut T, p: u64, value: u64)
+    requires { T.fits to.old (length (store_line p value)) }
+    ensures { T.takes to.old (store_line p value) to.new }
 {
-    let first = put_letter(out, at, 83);
-    let second = write_field(out, first, p, 32);
-    write_field(out, second, v, 10)
-}
-
-// The line of a request.
-fn put_request(out: &mut [u8], at: usize, p: u64, request: Request) -> usize
-    requires { at + length (kind_line (Ask request) p) ≤ length out.old }
-    ensures { (result ≡ at + length (kind_line (Ask request) p)) × (out.new ≡ sets out.old at (kind_line (Ask request) p)) }
-{
-    match request {
-        Request::Load => put_plain(out, at, 76, p),
-        Request::Store(v) => put_store(out, at, p, v),
-        Request::Check => put_plain(out, at, 86, p),
-    }
+    to.letter(b'S');
+    to.number(p, b' ');
+    to.number(value, b'\n');
 }
 
 // The line of an entry.
 #[tactic(auto, unfolding(writer::specs::Made::entry_line))]
-fn put_entry(out: &mut [u8], at: usize, entry: Entry) -> usize
-    requires { (at + length (entry_line entry) ≤ length out.old) × (entry.process.0 < 256) }
-    ensures { (result ≡ at + length (entry_line entry)) × (out.new ≡ sets out.old at (entry_line entry)) }
+fn put_entry<T: Taker>(to: &mut T, entry: Entry)
+    requires { (T.fits to.old (length (entry_line entry))) × (entry.process.0 < 256) }
+    ensures { T.takes to.old (entry_line entry) to.new }
 {
     let p = entry.process.0 as u64;
-    let kind = entry.kind;
-    match kind {
-        Kind::Ask(request) => put_request(out, at, p, request),
-        Kind::Step => put_plain(out, at, 84, p),
+    match entry.kind {
+        Kind::Ask(Request::Load) => put_plain(to, b'L', p),
+        Kind::Ask(Request::Store(value)) => put_store(to, p, value),
+        Kind::Ask(Request::Check) => put_plain(to, b'V', p),
+        Kind::Step => put_plain(to, b'T', p),
     }
 }
 
-// `H N S V`, at the front.
-pub(crate) fn put_start(out: &mut [u8], n: u8, s: u64, v: u64) -> usize
-    requires { length (start_line n s v) ≤ length out.old }
-    ensures { (result ≡ length (start_line n s v)) × (out.new ≡ sets out.old 0 (start_line n s v)) }
+// `H N S V`.
+fn put_start<T: Taker>(to: &mut T, n: u8, s: u64, v: u64)
+    requires { T.fits to.old (length (start_line n s v)) }
+    ensures { T.takes to.old (start_line n s v) to.new }
 {
-    let a = put_letter(out, 0, 72);
-    let b = write_field(out, a, n as u64, 32);
-    let c = write_field(out, b, s, 32);
-    write_field(out, c, v, 10)
+    to.letter(b'H');
+    to.number(u64::from(n), b' ');
+    to.number(s, b' ');
+    to.number(v, b'\n');
 }
 
 // The lines of a part's entries.
-fn put_part(out: &mut [u8], from: usize, part: &[u8]) -> usize
-    requires { from + length (entry_lines (part_entries part.now (length part.now / 12))) ≤ length out.old }
-    ensures { (result ≡ from + length (entry_lines (part_entries part.now (length part.now / 12))))
-        × (out.new ≡ sets out.old from (entry_lines (part_entries part.now (length part.now / 12)))) }
+fn put_part<T: Taker>(to: &mut T, part: &[u8])
+    requires { T.fits to.old (length (entry_lines (part_entries part.now (length part.now / 12)))) }
+    ensures { T.takes to.old (entry_lines (part_entries part.now (length part.now / 12))) to.new }
 {
-    let end = part.len() / 12;
-    let mut at = from;
-    let mut j = 0;
-    while j < end {
-        let entry = entry_at(part, j);
-        at = put_entry(out, at, entry);
-        j = j + 1;
+    for j in 0..part.len() / 12 {
+        put_entry(to, entry_at(part, j));
     }
-    at
 }
 
 // The lines of an accepted file's entries.
-pub(crate) fn put_entries(out: &mut [u8], from: usize, file: &[u8])
-    requires { (is_accepted (reading file.now) ≡ true) × (from + length (entry_lines (file_entries file.now)) ≤ length out.old) }
-    ensures { out.new ≡ sets out.old from (entry_lines (file_entries file.now)) }
+fn put_entries<T: Taker>(to: &mut T, file: &[u8])
+    requires { (is_accepted (reading file.now) ≡ true) × (T.fits to.old (length (entry_lines (file_entries file.now)))) }
+    ensures { T.takes to.old (entry_lines (file_entries file.now)) to.new }
 {
-    let after = file.len() / 512 - 1;
-    let mut at = from;
-    let mut done = 0;
-    while done < after {
-        let k = done + 1;
-        let b = block_of(file, k);
-        let part = used_entries(b);
-        at = put_part(out, at, part);
-        done = k;
+    for k in 1..file.len() / 512 {
+        put_part(to, used_entries(block_of(file, k)));
     }
+}
+
+// The text of an accepted file whose start this is.
+pub(crate) fn put_text<T: Taker>(to: &mut T, file: &[u8], n: u8, s: u64, v: u64)
+    requires { (is_accepted (reading file.now) ≡ true) × (T.fits to.old (length (listing file.now n s v))) }
+    ensures { T.takes to.old (listing file.now n s v) to.new }
+{
+    put_start(to, n, s, v);
+    put_entries(to, file);
 }

@@ -1,15 +1,8 @@
--- The lines of the blocks so far stand one behind the other.
-use Rattle.std.proofs.Common.{◌-◌, ◌≤◌}
-use Rattle.schedule.specs.File.{blocks_after, entries_to}
-use Rattle.text.proofs.Pieces.{Put}
+-- The lines of the blocks so far have been taken.
+use Rattle.std.proofs.Common.{◌-◌}
+use Rattle.schedule.specs.File.{entries_to}
 use Rattle.writer.specs.Made.{entry_lines}
 use Rattle.lister.proofs.put.put_entries.Given as goal
 
-abbrev pub invariant-loop-done : goal.invariant-loop-done
-invariant-loop-done l = record {
-  within : l.done ≤ blocks_after l.file;
-  put : Put (entry_lines (entries_to l.file l.done)) l.fn.out l.from l.out l.at;
-}
-
-abbrev pub decreases-loop-done : goal.decreases-loop-done
-decreases-loop-done l = l.after - l.done
+abbrev pub invariant-loop-k : goal.invariant-loop-k
+invariant-loop-k g l = g.T.Taker.takes l.initial.to (entry_lines (entries_to l.file (l.k - 1))) l.to

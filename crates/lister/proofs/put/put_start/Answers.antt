@@ -1,25 +1,38 @@
-use Rattle.std.proofs.Common.{◌+◌, ◌≤◌, [], ◌∷◌, ◌++◌, length, arith}
+use Rattle.std.proofs.Common.{[], ◌∷◌, ◌++◌, length}
 use Rattle.text.specs.Lines.{field}
-use Rattle.text.proofs.Pieces.{piece, whole, put_more}
 use Rattle.writer.specs.Made.{start_line}
-use Rattle.lister.proofs.Pieces.{stored_piece, room_next, room_first}
+use Rattle.lister.proofs.Takers.{first_fits, then_fits}
 use Rattle.lister.proofs.put.put_start.Goals as goal
 
-pub put_letter-a-requires : goal.put_letter-a-requires
+pub letter-requires : goal.letter-requires
 unfolding start_line
-put_letter-a-requires c = omega arith
+letter-requires g c = first_fits g.met.T.Taker.laws (72 ∷ 32 ∷ []) (field c.args.n 32 ++ (field c.args.s 32 ++ field c.args.v 10)) c.requires
+
+pub number-requires : goal.number-requires
+unfolding start_line
+number-requires g c =
+    let laws = g.met.T.Taker.laws in
+    let fits : g.T.Taker.fits c.letter.new.self (length (field c.from.result 32)) =
+    rw c.from.ensures (first_fits laws (field c.args.n 32) (field c.args.s 32 ++ field c.args.v 10) (then_fits laws (72 ∷ 32 ∷ []) _ c.letter.ensures c.requires)) in
+    fits
+
+pub number-requires-2 : goal.number-requires-2
+unfolding start_line
+number-requires-2 g c =
+    let laws = g.met.T.Taker.laws in
+    first_fits laws (field c.args.s 32) (field c.args.v 10)
+    (then_fits laws (field c.args.n 32) _ (rw c.from.ensures at c.number.ensures) (then_fits laws (72 ∷ 32 ∷ []) _ c.letter.ensures c.requires))
+
+pub number-requires-3 : goal.number-requires-3
+unfolding start_line
+number-requires-3 g c =
+    let laws = g.met.T.Taker.laws in
+    then_fits laws (field c.args.s 32) (field c.args.v 10) c.number-2.ensures
+    (then_fits laws (field c.args.n 32) _ (rw c.from.ensures at c.number.ensures) (then_fits laws (72 ∷ 32 ∷ []) _ c.letter.ensures c.requires))
 
 pub returns : goal.returns
 unfolding start_line
-returns c =
-    let a = c.args in
-    let n = field a.n 32 in
-    let s = field a.s 32 in
-    let v = field a.v 10 in
-    let letter = piece (72 ∷ 32 ∷ []) a.out.now 0 c.put_letter-a.ensures in
-    let fits : 0 + length (start_line a.n a.s a.v) ≤ length a.out.now = omega (arith, c.requires) in
-    let room = room_next (n ++ (s ++ v)) letter fits in
-    let one = stored_piece n _ _ (room_first n (s ++ v) c.put_letter-a.result room) c.write_field-b.ensures in
-    let rest = room_next (s ++ v) one room in
-    let two = stored_piece s _ _ (room_first s v c.write_field-b.result rest) c.write_field-c.ensures in
-    whole (put_more letter (put_more one (put_more two (stored_piece v _ _ (room_next v two rest) c.write_field.ensures))))
+returns g c =
+    let laws = g.met.T.Taker.laws in
+    laws.more _ _ _ (72 ∷ 32 ∷ []) _ c.letter.ensures
+    (laws.more _ _ _ (field c.args.n 32) _ (rw c.from.ensures at c.number.ensures) (laws.more _ _ _ (field c.args.s 32) (field c.args.v 10) c.number-2.ensures c.number-3.ensures))
