@@ -13,7 +13,8 @@ use lib.ListN.{length, take, drop, length-append, length-drop}
 use Rattle.run_log.specs.Found.{note_found}
 use Rattle.run_log.specs.Log.{laid}
 use Rattle.run_log.proofs.Laws.{grown, laid_fits, tail_given}
-use Rattle.text.specs.Types.{NoteFound, Written, NoNote}
+use Rattle.std.specs.Prelude.{Option, Some, None}
+use Rattle.text.specs.Types.{Note}
 use Rattle.text.specs.Lines.{line_text, lines_from, lines_fit, filled_text, filled_of, filled_in, printed, printed_count}
 use Rattle.text.proofs.Fits.{line_fits}
 
@@ -23,9 +24,9 @@ line log place = line_text place (note_found log place)
 pub line_short : (log : List ℕ) (place : ℕ) → length (line log place) ≤ 128
 line_short log place = go (note_found log place)
   where
-    go : (found : NoteFound) → length (line_text place found) ≤ 128
-    go (Written note) = line_fits place note
-    go NoNote = omega arith
+    go : (found : Option Note) → length (line_text place found) ≤ 128
+    go (Some note) = line_fits place note
+    go None = omega arith
 
 -- lines of two runs of entries
 pub lines_append : (log : List ℕ) (place k more : ℕ) → lines_from log place (k + more) ≡ lines_from log place k ++ lines_from log (place + k) more
@@ -88,11 +89,11 @@ module _ {out₀ log : List ℕ} {place end : ℕ} {out : List ℕ} {at next : �
   part_length = rw (h.part, length-append, ← h.bytes, length-drop) (omega (arith, h.within))
 
   -- a line more
-  pub filling_next : next < end → 128 ≤ length out₀ - at → (bytes : ℕ) (back : List ℕ)
+  pub filling_next : next < end → 128 ≤ length out - at → (bytes : ℕ) (back : List ℕ)
       → bytes ≡ printed_count (line log next) (take (length out - at) (drop at out)) → back ≡ printed (line log next) (take (length out - at) (drop at out))
       → Filling out₀ log place end (take at out ++ (back ++ drop (length out - at) (drop at out))) (at + bytes) (next + 1)
   unfolding lines_fit
-  filling_next l room bytes back counts prints =
+  filling_next l more_room bytes back counts prints =
       record {
         onward = omega (arith, h.onward);
         within = omega (arith, short, room, is_bytes);
@@ -103,6 +104,9 @@ module _ {out₀ log : List ℕ} {place end : ℕ} {out : List ℕ} {at next : �
     where
       done : List ℕ
       done = lines_from log place (next - place)
+
+      room : 128 ≤ length out₀ - at
+      room = rw part_length at more_room
 
       short : length (line log next) ≤ 128
       short = line_short log next
@@ -142,9 +146,17 @@ module _ {out₀ log : List ℕ} {place end : ℕ} {out : List ℕ} {at next : �
       let none : end - next ≡ 0 = omega (arith, l) in
       filled (h.count ∙ rw none (add-zero (next - place)))
 
-  pub filling_short : next < end → length out₀ - at < 128
+  pub filling_short : next < end → length out - at < 128
       → (record { bytes = at; place = next } ≡ filled_of log place end out₀) × (out ≡ filled_in log place end out₀)
   unfolding lines_fit
-  filling_short l room =
+  filling_short l less_room =
+      let room : length out₀ - at < 128 = rw part_length at less_room in
       let some : end - next ≡ suc (end - (next + 1)) = omega (arith, l) in
       filled (h.count ∙ rw (some, lt-leb 128 (length out₀ - at) room) (add-zero (next - place)))
+
+  -- where no lines are asked for, none are passed
+  pub filling_stop : end ≤ place → next ≡ place
+  unfolding lines_fit
+  filling_stop l =
+      let none : end - place ≡ 0 = omega (arith, l) in
+      omega (arith, h.onward, rw none at h.count)

@@ -1,16 +1,19 @@
 -- Pieces of a text stored one behind the other, and a whole line in a lent part.
 -- Assumes nothing.
 use Prim.Native.Nat.{ℕ, suc, ◌+◌, ◌≤◌, ◌<◌}
-use mathlib.Core.Path.{◌≡◌, refl, ap, ◌∙◌}
+use mathlib.Core.Path.{◌≡◌, refl, ◌∙◌}
 use mathlib.Core.Bool.{Bool, true, false, cond}
-use mathlib.Core.List.{List, [], ◌∷◌, ◌++◌, append_assoc}
+use mathlib.Core.List.{List, [], ◌∷◌, ◌++◌, append_assoc, append-nil}
 use native.Mathlib.Nat.{add-zero, zero-add, add_assoc}
 use native.Mathlib.Numerals.{add-one}
 use native.Mathlib.Omega.{arith}
 use borrow.Author.Tests.{le-leb, lt-leb}
 use lib.Dec.{leb}
 use lib.ListN.{length, get_or, take, drop, set, length-append}
-use lib.Seq.{sets, sets-eq, length-sets, take-suc, take-length}
+use lib.Seq.{sets, sets-eq, length-sets, take-suc, take_all}
+use Rattle.std.proofs.lemmas.Grind.{flat_map-append}
+use Rattle.text.specs.Types.{Piece, Word}
+use Rattle.text.specs.Pieces.{text_of_piece, text_of_pieces}
 use Rattle.text.specs.Lines.{printed, printed_count, stored_at, stored_end}
 
 pub sets_more : (first then out : List ℕ) (at : ℕ) → sets (sets out at first) (at + length first) then ≡ sets out at (first ++ then)
@@ -49,19 +52,18 @@ put_more {first} {then} {out} {at = at} p q =
 pub put_length : {text out left : List ℕ} {at next : ℕ} → Put text out at left next → length left ≡ length out
 put_length {text} {out} {at = at} p = rw p.bytes (length-sets out at text)
 
--- one byte more of a word
-pub put_next : (word out mid : List ℕ) (at i : ℕ) → i < length word → Put (take i word) out at mid (at + i)
-    → Put (take (i + 1) word) out at (set mid (at + i) (get_or word i 0)) (at + (i + 1))
-put_next word out mid at i h p =
-    let one : Put (get_or word i 0 ∷ []) mid (at + i) (set mid (at + i) (get_or word i 0)) (at + (i + 1)) =
-    record { place = omega arith; bytes = refl } in
-    rw (add-one i, take-suc word i 0 h) (rw (add-one i) at (put_more p one))
+-- where a row has no piece
+abbrev pub no_piece : Piece
+no_piece = Word (record { ref_ptr = (0, 0); now = [] })
 
--- and all of it
-pub put_whole : (word out left : List ℕ) (at i : ℕ) → i ≡ length word → Put (take i word) out at left (at + i) → Put word out at left (at + i)
-put_whole word out left at i e p =
-    let all : take i word ≡ word = ap (λ (k : ℕ). take k word) e ∙ take-length word in
-    rw all at p
+-- one piece more of a row
+pub put_another : (row : List Piece) (i : ℕ) (none : Piece) {out mid left : List ℕ} {at next : ℕ} → i < length row
+    → Put (text_of_pieces (take i row)) out 0 mid at
+    → (next ≡ at + length (text_of_piece (get_or row i none))) × (left ≡ sets mid at (text_of_piece (get_or row i none)))
+    → Put (text_of_pieces (take (i + 1) row)) out 0 left next
+put_another row i none h p q =
+    rw (add-one i, take-suc row i none h, flat_map-append text_of_piece (take i row) (get_or row i none ∷ []), append-nil)
+    (put_more p (piece (text_of_piece (get_or row i none)) _ _ q))
 
 -- a line from the front of a part that is long enough
 pub line_printed : (text out : List ℕ) {left : List ℕ} {next : ℕ} → 128 ≤ length out → length text ≤ 128
@@ -71,6 +73,12 @@ line_printed text out h k p =
       rw (le-leb 128 (length out) h, p.0),
       rw (le-leb 128 (length out) h, p.1, sets-eq text out 0 room, zero-add),
     )
+
+-- and so all of a row
+pub row_printed : (row : List Piece) (i : ℕ) (out : List ℕ) {left : List ℕ} {next : ℕ} → 128 ≤ length out → length (text_of_pieces row) ≤ 128
+    → length row ≤ i → Put (text_of_pieces (take i row)) out 0 left next
+    → (next ≡ printed_count (text_of_pieces row) out) × (left ≡ printed (text_of_pieces row) out)
+row_printed row i out h k e p = line_printed (text_of_pieces row) out h k (whole (rw (take_all i row e) at p))
 
 -- and nothing at all where it is not
 pub line_refused : (text out : List ℕ) → length out < 128 → (0 ≡ printed_count text out) × (out ≡ printed text out)

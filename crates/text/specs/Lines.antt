@@ -1,10 +1,10 @@
 -- Document 01, "The player and one full run": what is printed, as bytes.
-use Rattle.std.specs.Prelude.{ℕ, zero, suc, ◌+◌, ◌-◌, cond, List, [], ◌∷◌, ◌++◌, eqb, leb, length, take, drop}
+use Rattle.std.specs.Prelude.{ℕ, zero, suc, ◌+◌, ◌-◌, cond, List, [], ◌∷◌, ◌++◌, eqb, leb, length, take, drop, Option, Some, None}
 use Prim.Native.Char.{code}
 use Prim.Native.String.{String}
 use Prim.Native.String as string
 use Rattle.run_log.specs.Found.{head_found, note_found}
-use Rattle.text.specs.Types.{Filled, HeadFound, Laid, NoHead, Note, NoteFound, Written, NoNote}
+use Rattle.text.specs.Types.{Filled, Head, Note}
 use Rattle.text.specs.Decimal.{decimal_of}
 
 -- plain text: a byte for each character
@@ -64,22 +64,22 @@ abbrev pub stored_end : ℕ → List ℕ → List ℕ → ℕ
 stored_end at text out = cond (leb (at + length text) (length out)) (at + length text) at
 
 -- the same lines from the bytes of a log; where the log is too short for what is asked, no text
-abbrev pub head_text : HeadFound → List ℕ
-head_text (Laid head) = head_line head.entries head.changes head.n
-head_text NoHead = []
+abbrev pub head_text : Option Head → List ℕ
+head_text (Some head) = head_line head.entries head.changes head.n
+head_text None = []
 
-abbrev pub line_text : ℕ → NoteFound → List ℕ
-line_text place (Written note) = line_of place note
-line_text place NoNote = []
+abbrev pub line_text : ℕ → Option Note → List ℕ
+line_text place (Some note) = line_of place note
+line_text place None = []
 
 -- the lines of the entries from a place on, as many as are asked for, and all that is printed of a log
 unfoldable pub lines_from : List ℕ → ℕ → ℕ → List ℕ
 lines_from log place zero = []
 lines_from log place (suc more) = line_text place (note_found log place) ++ lines_from log (place + 1) more
 
-abbrev pub text_by : List ℕ → HeadFound → List ℕ
-text_by log (Laid head) = head_text (Laid head) ++ lines_from log 0 head.entries
-text_by log NoHead = []
+abbrev pub text_by : List ℕ → Option Head → List ℕ
+text_by log (Some head) = head_text (Some head) ++ lines_from log 0 head.entries
+text_by log None = []
 
 unfoldable pub text_of : List ℕ → List ℕ
 text_of log = text_by log (head_found log)

@@ -1,7 +1,6 @@
 -- The types that the code declares, here and below, by their names.
-pub use Rattle.run_log.specs.declared.HeadFound.{HeadFound}
-pub use Rattle.run_log.specs.declared.HeadFound.TheVariants.{Laid, NoHead}
+pub use Rattle.run_log.specs.declared.Head.{Head}
 pub use Rattle.run_log.specs.declared.Note.{Note}
-pub use Rattle.run_log.specs.declared.NoteFound.{NoteFound}
-pub use Rattle.run_log.specs.declared.NoteFound.TheVariants.{Written, NoNote}
+pub use Rattle.text.specs.declared.Piece.{Piece}
+pub use Rattle.text.specs.declared.Piece.TheVariants.{Word, Number}
 pub use Rattle.text.specs.declared.Filled.{Filled}

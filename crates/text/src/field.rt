@@ -12,8 +12,8 @@ pub fn count_digits(n: u64) -> usize
     let mut rest = n;
     let mut count = 1;
     while 10 <= rest {
-        rest = rest / 10;
-        count = count + 1;
+        rest /= 10;
+        count += 1;
     }
     count
 }
@@ -22,11 +22,7 @@ pub fn count_digits(n: u64) -> usize
 fn has_room(room: usize, n: u64) -> bool
     ensures { result ≡ ltb (length (decimal_of n)) room }
 {
-    if 21 <= room {
-        return true;
-    }
-    let digits = count_digits(n);
-    digits < room
+    21 <= room || count_digits(n) < room
 }
 
 // A number and what ends it, from a place on; the answer is the place behind both. Where they don't fit, the part stays as it was, and the
@@ -34,14 +30,10 @@ fn has_room(room: usize, n: u64) -> bool
 pub fn write_field(out: &mut [u8], at: usize, n: u64, end: u8) -> usize
     ensures { (result ≡ stored_end at (field n end) out.old) × (out.new ≡ stored_at at (field n end) out.old) }
 {
-    let len = out.len();
-    if at < len {
-        let room = len - at;
-        let fits = has_room(room, n);
-        if fits {
-            let next = put_number(out, at, n);
-            return put_byte(out, next, end);
-        }
+    if at < out.len() && has_room(out.len() - at, n) {
+        let next = put_number(out, at, n);
+        put_byte(out, next, end)
+    } else {
+        at
     }
-    at
 }

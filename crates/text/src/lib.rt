@@ -6,6 +6,13 @@ pub mod line;
 pub mod page;
 mod put;
 
+// A piece of a line: bytes as they are, or a number in decimal.
+#[derive(Clone, Copy)]
+pub(crate) enum Piece {
+    Word(&'static [u8]),
+    Number(u64),
+}
+
 // How many bytes of whole lines were printed into a lent part, and the place of the first entry whose line was not.
 #[derive(Clone, Copy)]
 pub struct Filled {

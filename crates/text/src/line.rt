@@ -1,128 +1,139 @@
 // The lines that are printed. Each is written at the front of a lent part, and the answer is how many bytes it has; a part
 // shorter than ROOM stays as it was, and the answer is 0.
 ghost use Rattle.std.specs.Prelude.{◌≡◌, ◌≤◌, length};
-ghost use Rattle.std.proofs.lemmas.List.Edits.{sets};
 ghost use Rattle.run_log.specs.Found.{head_found, note_found};
 ghost use Rattle.text.specs.Decimal.{decimal_of};
 ghost use Rattle.text.specs.Lines.{head_line, line_of, refused_line, refused_text_line, head_text, line_text, printed, printed_count};
+ghost use Rattle.text.specs.Pieces.{text_of_pieces, most_of_pieces};
 
-use crate::put::{put_field, put_number, put_word};
+use crate::Piece::{self, Number, Word};
+use crate::put::put_piece;
 use run_log::read::{read_head, read_record};
-use run_log::{HeadFound, Note, NoteFound};
+use run_log::{Head, Note};
 
 // Bytes that are enough for every line, whatever its numbers are.
 pub const ROOM: usize = 128;
 
-fn put_head_line(out: &mut [u8], entries: u32, changes: u32, n: u8) -> usize
-    requires { 128 ≤ length out.old }
-    ensures { (result ≡ length (head_line entries changes n)) × (out.new ≡ sets out.old 0 (head_line entries changes n)) }
+// The pieces of a line, one behind the other.
+fn write_pieces(out: &mut [u8], pieces: &[Piece]) -> usize
+    requires { most_of_pieces pieces.now ≤ 128 }
+    ensures { (result ≡ printed_count (text_of_pieces pieces.now) out.old)
+        × (out.new ≡ printed (text_of_pieces pieces.now) out.old) }
 {
-    let a = put_word(out, 0, b"entries ");
-    let b = put_field(out, a, entries as u64, b' ');
-    let c = put_word(out, b, b"changes ");
-    let d = put_field(out, c, changes as u64, b' ');
-    let e = put_word(out, d, b"processes ");
-    put_field(out, e, n as u64, b'\n')
-}
-
-fn put_line(out: &mut [u8], place: u32, note: Note) -> usize
-    requires { 128 ≤ length out.old }
-    ensures { (result ≡ length (line_of place note)) × (out.new ≡ sets out.old 0 (line_of place note)) }
-{
-    let process = note.process as u64;
-    let outcome = note.outcome as u64;
-    let steps = note.steps as u64;
-    let mark = note.mark as u64;
-    let value = note.value;
-    let a = put_field(out, 0, place as u64, b' ');
-    let b = put_field(out, a, process, b' ');
-    let c = put_field(out, b, outcome, b' ');
-    let d = put_field(out, c, steps, b' ');
-    let e = put_field(out, d, mark, b' ');
-    put_field(out, e, value, b'\n')
-}
-
-fn put_refused_line(out: &mut [u8], number: usize, block: usize, place: usize) -> usize
-    requires { 128 ≤ length out.old }
-    ensures { (result ≡ length (refused_line number block place)) × (out.new ≡ sets out.old 0 (refused_line number block place)) }
-{
-    let a = put_word(out, 0, b"refused ");
-    let b = put_field(out, a, number as u64, b' ');
-    let c = put_word(out, b, b"block ");
-    if place == 0 {
-        return put_field(out, c, block as u64, b'\n');
+    let mut at = 0;
+    if ROOM <= out.len() {
+        for piece in pieces {
+            at = put_piece(out, at, *piece);
+        }
     }
-    let d = put_field(out, c, block as u64, b' ');
-    let e = put_word(out, d, b"place ");
-    put_field(out, e, place as u64, b'\n')
-}
-
-fn put_refused_text_line(out: &mut [u8], number: u32, line: u64) -> usize
-    requires { 128 ≤ length out.old }
-    ensures { (result ≡ length (refused_text_line number line)) × (out.new ≡ sets out.old 0 (refused_text_line number line)) }
-{
-    let a = put_word(out, 0, b"refused ");
-    if number == 25 {
-        let b = put_field(out, a, number as u64, b' ');
-        let c = put_word(out, b, b"line ");
-        return put_field(out, c, line, b'\n');
-    }
-    put_field(out, a, number as u64, b'\n')
+    at
 }
 
 // A number in decimal.
 pub fn write_number(out: &mut [u8], n: u64) -> usize
     ensures { (result ≡ printed_count (decimal_of n) out.old) × (out.new ≡ printed (decimal_of n) out.old) }
 {
-    if ROOM <= out.len() {
-        put_number(out, 0, n)
-    } else {
-        0
-    }
+    write_pieces(out, &[Number(n)])
 }
 
-pub fn write_head_line(out: &mut [u8], entries: u32, changes: u32, n: u8) -> usize
-    ensures { (result ≡ printed_count (head_line entries changes n) out.old)
-        × (out.new ≡ printed (head_line entries changes n) out.old) }
+#[tactic(auto, using(crate::proofs::Rows::head_row))]
+pub fn write_head_line(out: &mut [u8], head: Head) -> usize
+    ensures { (result ≡ printed_count (head_line head.entries head.changes head.n) out.old)
+        × (out.new ≡ printed (head_line head.entries head.changes head.n) out.old) }
 {
-    if ROOM <= out.len() {
-        put_head_line(out, entries, changes, n)
-    } else {
-        0
-    }
+    write_pieces(
+        out,
+        &[
+            Word(b"entries "),
+            Number(head.entries as u64),
+            Word(b" changes "),
+            Number(head.changes as u64),
+            Word(b" processes "),
+            Number(head.n as u64),
+            Word(b"\n"),
+        ],
+    )
 }
 
+#[tactic(auto, using(crate::proofs::Rows::line_row))]
 pub fn write_line(out: &mut [u8], place: u32, note: Note) -> usize
     ensures { (result ≡ printed_count (line_of place note) out.old)
         × (out.new ≡ printed (line_of place note) out.old) }
 {
-    if ROOM <= out.len() {
-        put_line(out, place, note)
-    } else {
-        0
-    }
+    write_pieces(
+        out,
+        &[
+            Number(place as u64),
+            Word(b" "),
+            Number(note.process as u64),
+            Word(b" "),
+            Number(note.outcome as u64),
+            Word(b" "),
+            Number(note.steps as u64),
+            Word(b" "),
+            Number(note.mark as u64),
+            Word(b" "),
+            Number(note.value),
+            Word(b"\n"),
+        ],
+    )
 }
 
 // The line of a refused file; 0 stands for no place.
+#[tactic(auto, using(crate::proofs::Rows::refused_row, crate::proofs::Rows::refused_placed_row))]
 pub fn write_refused_line(out: &mut [u8], number: usize, block: usize, place: usize) -> usize
     ensures { (result ≡ printed_count (refused_line number block place) out.old)
         × (out.new ≡ printed (refused_line number block place) out.old) }
 {
-    if ROOM <= out.len() {
-        put_refused_line(out, number, block, place)
+    let what = Number(number as u64);
+    let which = Number(block as u64);
+    let stray = Number(place as u64);
+    if place == 0 {
+        write_pieces(
+            out,
+            &[
+                Word(b"refused "),
+                what,
+                Word(b" block "),
+                which,
+                Word(b"\n"),
+            ],
+        )
     } else {
-        0
+        write_pieces(
+            out,
+            &[
+                Word(b"refused "),
+                what,
+                Word(b" block "),
+                which,
+                Word(b" place "),
+                stray,
+                Word(b"\n"),
+            ],
+        )
     }
 }
 
+#[tactic(auto, using(crate::proofs::Rows::refused_text_row, crate::proofs::Rows::refused_lineless_row))]
 pub fn write_refused_text_line(out: &mut [u8], number: u32, line: u64) -> usize
     ensures { (result ≡ printed_count (refused_text_line number line) out.old)
         × (out.new ≡ printed (refused_text_line number line) out.old) }
 {
-    if ROOM <= out.len() {
-        put_refused_text_line(out, number, line)
+    let what = Number(number as u64);
+    if number == 25 {
+        write_pieces(
+            out,
+            &[
+                Word(b"refused "),
+                what,
+                Word(b" line "),
+                Number(line),
+                Word(b"\n"),
+            ],
+        )
     } else {
-        0
+        write_pieces(out, &[Word(b"refused "), what, Word(b"\n")])
     }
 }
 
@@ -131,15 +142,9 @@ pub fn write_head_of(out: &mut [u8], log: &[u8]) -> usize
     ensures { (result ≡ printed_count (head_text (head_found log.now)) out.old)
         × (out.new ≡ printed (head_text (head_found log.now)) out.old) }
 {
-    let found = read_head(log);
-    match found {
-        HeadFound::Laid(head) => {
-            let entries = head.entries;
-            let changes = head.changes;
-            let n = head.n;
-            write_head_line(out, entries, changes, n)
-        }
-        HeadFound::NoHead => 0,
+    match read_head(log) {
+        Some(head) => write_head_line(out, head),
+        None => 0,
     }
 }
 
@@ -148,9 +153,8 @@ pub fn write_line_of(out: &mut [u8], log: &[u8], place: u32) -> usize
     ensures { (result ≡ printed_count (line_text place (note_found log.now place)) out.old)
         × (out.new ≡ printed (line_text place (note_found log.now place)) out.old) }
 {
-    let found = read_record(log, place);
-    match found {
-        NoteFound::Written(note) => write_line(out, place, note),
-        NoteFound::NoNote => 0,
+    match read_record(log, place) {
+        Some(note) => write_line(out, place, note),
+        None => 0,
     }
 }

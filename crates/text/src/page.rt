@@ -9,23 +9,18 @@ use crate::line::{ROOM, write_line_of};
 pub fn write_lines_of(out: &mut [u8], log: &[u8], place: u32, end: u32) -> Filled
     ensures { (result ≡ filled_of log.now place end out.old) × (out.new ≡ filled_in log.now place end out.old) }
 {
-    let len = out.len();
     let mut at = 0;
-    let mut next = place;
-    while next < end {
-        let room = len - at;
-        if room < ROOM {
+    for next in place..end {
+        if out.len() - at < ROOM {
             return Filled {
                 bytes: at,
                 place: next,
             };
         }
-        let bytes = write_line_of(&mut out[at..], log, next);
-        at = at + bytes;
-        next = next + 1;
+        at += write_line_of(&mut out[at..], log, next);
     }
     Filled {
         bytes: at,
-        place: next,
+        place: place.max(end),
     }
 }

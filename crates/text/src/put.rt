@@ -2,7 +2,9 @@
 ghost use Rattle.std.specs.Prelude.{◌≡◌, [], ◌∷◌, ◌+◌, ◌≤◌, ◌<◌, length};
 ghost use Rattle.std.proofs.lemmas.List.Edits.{sets};
 ghost use Rattle.text.specs.Decimal.{decimal_of};
-ghost use Rattle.text.specs.Lines.{field};
+ghost use Rattle.text.specs.Pieces.{text_of_piece};
+
+use crate::Piece;
 
 pub(crate) fn put_byte(out: &mut [u8], at: usize, b: u8) -> usize
     requires { at < length out.old }
@@ -13,17 +15,13 @@ pub(crate) fn put_byte(out: &mut [u8], at: usize, b: u8) -> usize
 }
 
 // A text that is known beforehand.
-pub(crate) fn put_word(out: &mut [u8], at: usize, word: &[u8]) -> usize
+fn put_word(out: &mut [u8], at: usize, word: &[u8]) -> usize
     requires { at + length word.now ≤ length out.old }
     ensures { (result ≡ at + length word.now) × (out.new ≡ sets out.old at word.now) }
 {
-    let mut i = 0;
-    while i < word.len() {
-        let place = at + i;
-        out[place] = word[i];
-        i = i + 1;
-    }
-    at + i
+    let end = at + word.len();
+    out[at..end].copy_from_slice(word);
+    end
 }
 
 // The digits before the last one are those of n / 10.
@@ -31,8 +29,7 @@ pub(crate) fn put_number(out: &mut [u8], at: usize, n: u64) -> usize
     requires { at + length (decimal_of n) ≤ length out.old }
     ensures { (result ≡ at + length (decimal_of n)) × (out.new ≡ sets out.old at (decimal_of n)) }
 {
-    let last = n % 10;
-    let digit = (48 + last) as u8;
+    let digit = b'0' + (n % 10) as u8;
     if n < 10 {
         put_byte(out, at, digit)
     } else {
@@ -41,11 +38,12 @@ pub(crate) fn put_number(out: &mut [u8], at: usize, n: u64) -> usize
     }
 }
 
-// A number and what ends it.
-pub(crate) fn put_field(out: &mut [u8], at: usize, n: u64, end: u8) -> usize
-    requires { at + 21 ≤ length out.old }
-    ensures { ((result ≡ at + length (field n end)) × (out.new ≡ sets out.old at (field n end))) × (result ≤ at + 21) }
+pub(crate) fn put_piece(out: &mut [u8], at: usize, piece: Piece) -> usize
+    requires { at + length (text_of_piece piece) ≤ length out.old }
+    ensures { (result ≡ at + length (text_of_piece piece)) × (out.new ≡ sets out.old at (text_of_piece piece)) }
 {
-    let next = put_number(out, at, n);
-    put_byte(out, next, end)
+    match piece {
+        Piece::Word(word) => put_word(out, at, word),
+        Piece::Number(n) => put_number(out, at, n),
+    }
 }

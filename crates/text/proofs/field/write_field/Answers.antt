@@ -6,11 +6,11 @@ use Rattle.text.specs.Lines.{field}
 use Rattle.text.proofs.Pieces.{piece, put_more, stored_fits}
 use Rattle.text.proofs.field.write_field.Goals as goal
 
-pub returns-then-fits : goal.returns-then-fits
-returns-then-fits c =
+pub returns-then-has_room : goal.returns-then-has_room
+returns-then-has_room c =
     let a = c.args in
     let room : length (decimal_of a.n) < length a.out.now - a.at =
-    ltb-true (length (decimal_of a.n)) (length a.out.now - a.at) (sym c.has_room-fits.ensures ∙ c.if-fits.true) in
+    ltb-true (length (decimal_of a.n)) (length a.out.now - a.at) (sym c.has_room.ensures ∙ c.if-has_room.true) in
     let fits : a.at + length (field a.n a.end) ≤ length a.out.now =
     rw (length-append (decimal_of a.n) (a.end ∷ [])) (omega arith) in
     stored_fits fits

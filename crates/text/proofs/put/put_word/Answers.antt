@@ -1,7 +1,14 @@
-use Rattle.std.proofs.Common.{arith}
-use Rattle.text.proofs.Pieces.{put_next}
+-- The word stands in the place of as many bytes of the part.
+use Rattle.std.proofs.Common.{arith, ◌+◌, length, refl, sym, append_assoc, take, drop}
+use lib.Seq.{sets-eq}
+use borrow.Rule.Slice.PartMut.{Post-is}
 use Rattle.text.proofs.put.put_word.Goals as goal
 
-pub loop-i-preserved : goal.loop-i-preserved
-loop-i-preserved c =
-    (omega arith, put_next c.args.word.now _ _ _ c.loop-i.i c.loop-i-test.true c.loop-i.invariant.1)
+pub returns : goal.returns
+returns c =
+    let a = c.args in
+    let end = a.at + length a.word.now in (
+      refl,
+      rw (c.copy_from_slice.ensures.after, Post-is a.at end a.out.now (omega arith), sets-eq a.word.now a.out.now a.at c.requires)
+          (sym (append_assoc (take a.at a.out.now) a.word.now (drop end a.out.now))),
+    )
