@@ -5,7 +5,6 @@
 ghost use Rattle.std.specs.Prelude.{◌≤◌, length};
 
 use bench::whole::run;
-use run_log::HeadFound;
 use run_log::read::read_head;
 use std::io::Read;
 
@@ -59,8 +58,7 @@ fn show_line(output: &impl Print, log: &[u8], place: u32) -> bool {
 // One line an entry, up to the first that does not go out.
 fn show_lines(output: &impl Print, log: &[u8], entries: u32) -> bool {
     for place in 0..entries {
-        let gone = show_line(output, log, place);
-        if !gone {
+        if !show_line(output, log, place) {
             return false;
         }
     }
@@ -68,18 +66,9 @@ fn show_lines(output: &impl Print, log: &[u8], entries: u32) -> bool {
 }
 
 fn show_log(output: &impl Print, log: &[u8]) -> bool {
-    let head = show_head(output, log);
-    if head {
-        let found = read_head(log);
-        match found {
-            HeadFound::Laid(told) => {
-                let entries = told.entries;
-                show_lines(output, log, entries)
-            }
-            HeadFound::NoHead => false,
-        }
-    } else {
-        false
+    match read_head(log) {
+        Some(head) => show_head(output, log) && show_lines(output, log, head.entries),
+        None => false,
     }
 }
 
