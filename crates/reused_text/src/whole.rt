@@ -8,8 +8,8 @@ ghost use Rattle.reused_text.specs.Played.{text_log, ran_not, ran_of, log_after}
 use crate::play::play_lines;
 use crate::scan::scan;
 use crate::{Ran, Scanned};
+use numbers::Version;
 use reused::opening::start;
-use run_log::Head;
 use run_log::write::lay_head;
 
 fn turn_away(number: usize, line: usize) -> Ran
@@ -36,15 +36,9 @@ fn run_entries(text: &[u8], log: &mut [u8], told: Scanned)
     let state = started.state;
     let few = n as u8;
     let count = entries as u32;
-    let opened = Head {
-        entries: count,
-        changes: 0,
-        n: few,
-    };
-    lay_head(log, opened);
+    lay_head(log, count, Version(0), few);
     let changes = play_lines(text, from, &mut log[12..], state, entries);
-    let changes = changes.0 as u32;
-    lay_head(log, Head { changes, ..opened });
+    lay_head(log, count, changes, few);
 }
 
 // Plays a text into a lent log: what turned it away, or how many entries were played.
