@@ -18,7 +18,7 @@ use Rattle.reused.specs.State.{start_of}
 use Rattle.reused.specs.Frame.{Ready}
 use Rattle.reused.specs.Run.{notes, change_count}
 use Rattle.reused.proofs.Soundness.{sizes_fine, sizes_of_lem}
-use Rattle.reused.proofs.RunLaws.{ready_start, notes_length, count_most}
+use Rattle.reused.proofs.RunLaws.{ready_start, notes_length}
 use Rattle.reused_text.specs.Types.{State, Started, Entry, Version, Note, Scanned}
 use Rattle.reused_text.specs.Form.{head_fine, line_fine, text_n, text_m, text_entries, text_number}
 use Rattle.reused_text.specs.Parts.{bit_entries_from, within, scanned_of}
@@ -142,14 +142,6 @@ module _ (text : List ℕ) (z : text_number text ≡ 0) (told : Scanned) (w : to
       rw (tail_given, length-drop) (rest_there started.state (bit_entries_from text told.from) told.n told.entries entries_long log room first lays),
       told_small.1,
     )
-
-    -- no more changes than entries
-    pub count_small : (changes : Version) → changes ≡ changes_from started.state (bit_entries_from text told.from) → changes.0 ≤ told.entries
-    unfolding changes_from
-    count_small changes counts =
-        let st = started.state in
-        let es = bit_entries_from text told.from in
-        rw counts (omega (arith, count_most (notes st es), notes_length st es, entries_long))
 
     pub log_done : (changes : Version) → changes ≡ changes_from started.state (bit_entries_from text told.from)
         → (back : List ℕ) → back ≡ records_from started.state (bit_entries_from text told.from) (take (length first - 12) (drop 12 first))

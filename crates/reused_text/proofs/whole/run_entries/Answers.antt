@@ -1,6 +1,6 @@
 -- The start is ready, so the entries can be played; head, records and what lies past them make the log.
 use Rattle.std.proofs.Common.{arith}
-use Rattle.reused_text.proofs.Wholes.{told_small, lines_given, count_small, log_done}
+use Rattle.reused_text.proofs.Wholes.{told_small, lines_given, log_done}
 use Rattle.reused_text.proofs.whole.run_entries.Goals as goal
 
 pub overflow_cast-few : goal.overflow_cast-few
@@ -11,12 +11,6 @@ overflow_cast-count c = omega (arith, (told_small c.args.text.now c.requires.0 c
 
 pub play_lines-changes-requires : goal.play_lines-changes-requires
 play_lines-changes-requires c = lines_given c.args.text.now c.requires.0 c.args.told c.requires.1 _ c.start-started.ensures _ c.requires.2 _ c.lay_head.ensures
-
-pub overflow_cast-changes : goal.overflow_cast-changes
-overflow_cast-changes c =
-    let few = (told_small c.args.text.now c.requires.0 c.args.told c.requires.1).1 in
-    let most = count_small c.args.text.now c.requires.0 c.args.told c.requires.1 _ c.start-started.ensures _ c.requires.2 _ c.lay_head.ensures _ c.play_lines-changes.ensures.0 in
-    omega arith
 
 pub returns : goal.returns
 returns c =
