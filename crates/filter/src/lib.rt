@@ -1,0 +1,11 @@
+// What the programs have in common, which are filters: an input is read whole into a part that the caller lends, lines go out, and trouble
+// is told in words. It only moves bytes; where a reader's bytes or a writer's are known, the promises say which.
+#![tactic(auto)]
+
+mod input;
+mod output;
+mod trouble;
+
+pub use input::read_whole;
+pub use output::{write_head, write_lines, write_log, write_refusal, write_text_refusal};
+pub use trouble::{Program, Trouble, complain};

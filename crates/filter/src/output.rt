@@ -1,0 +1,70 @@
+// Lines, written one after another.
+ghost use Rattle.std.specs.Prelude.{◌%◌, ◌^◌, OnOk};
+ghost use Rattle.std.specs.Io.KnownBytes.{Appends};
+ghost use Rattle.run_log.specs.Found.{head_found};
+ghost use Rattle.text.specs.Lines.{refused_line, refused_text_line, head_text, lines_from, text_of};
+
+use run_log::read::read_head;
+use std::io;
+use std::io::Write;
+use text::line::{ROOM, write_head_of, write_refused_line, write_refused_text_line};
+use text::page::write_lines_of;
+
+// The line of a refused file; 0 stands for no place.
+pub fn write_refusal<W: Write>(
+    output: &mut W,
+    number: usize,
+    block: usize,
+    place: usize,
+) -> io::Result<()>
+    ensures { OnOk result (Appends (W.contents output.old) (W.contents output.new) (refused_line number block place)) }
+{
+    let mut line = [0u8; ROOM];
+    let n = write_refused_line(&mut line, number, block, place);
+    output.write_all(&line[..n])
+}
+
+// The line of a refused text.
+pub fn write_text_refusal<W: Write>(output: &mut W, number: usize, line: usize) -> io::Result<()>
+    ensures { OnOk result (Appends (W.contents output.old) (W.contents output.new) (refused_text_line (number % 2 ^ 32) line)) }
+{
+    let mut out = [0u8; ROOM];
+    let n = write_refused_text_line(&mut out, (number % (1 << 32)) as u32, line as u64);
+    output.write_all(&out[..n])
+}
+
+// The head line of a log.
+pub fn write_head<W: Write>(output: &mut W, log: &[u8]) -> io::Result<()>
+    ensures { OnOk result (Appends (W.contents output.old) (W.contents output.new) (head_text (head_found log.now))) }
+{
+    let mut line = [0u8; ROOM];
+    let n = write_head_of(&mut line, log);
+    output.write_all(&line[..n])
+}
+
+// A line for each of the first entries of a log, as many at a time as there is room for.
+pub fn write_lines<W: Write>(output: &mut W, log: &[u8], entries: u32) -> io::Result<()>
+    ensures { OnOk result (Appends (W.contents output.old) (W.contents output.new) (lines_from log.now 0 entries)) }
+{
+    let mut lines = [0u8; 65536];
+    let mut place = 0;
+    while place < entries {
+        let filled = write_lines_of(&mut lines, log, place, entries);
+        output.write_all(&lines[..filled.bytes])?;
+        place = filled.place;
+    }
+    Ok(())
+}
+
+// All that is printed of a log: its head line, and a line for each entry.
+pub fn write_log<W: Write>(output: &mut W, log: &[u8]) -> io::Result<()>
+    ensures { OnOk result (Appends (W.contents output.old) (W.contents output.new) (text_of log.now)) }
+{
+    match read_head(log) {
+        Some(head) => {
+            write_head(output, log)?;
+            write_lines(output, log, head.entries)
+        }
+        None => Ok(()),
+    }
+}
