@@ -1,5 +1,5 @@
 -- The loop over the blocks: the run of a file is the run of its blocks one after another, and its records stand one behind the other.
-use Prim.Native.Nat.{ℕ, zero, suc, ◌+◌, ◌-◌, ◌*◌, ◌/◌, ◌≤◌, ◌<◌}
+use Prim.Native.Nat.{ℕ, zero, suc, ◌+◌, ◌*◌, ◌/◌, ◌≤◌, ◌<◌}
 use mathlib.Core.Path.{◌≡◌, refl, sym, ap, ◌∙◌}
 use mathlib.Core.Bool.{true, cond, and-eq-true_iff}
 use mathlib.Core.List.{List, ◌++◌, map, map-append}
@@ -59,20 +59,19 @@ entries_fewer f k (suc n) l = go (dec_le k n) (λ h. entries_fewer f k n h)
         rw e (omega arith)
 
 -- What the loop over the blocks keeps: after `done` blocks state, count and log are those of the run of their entries.
-pub record Walk (f rest₀ : List ℕ) (last : ℕ) (st₀ : State) (changes₀ : Version) (rest : List ℕ) (st : State) (changes : Version) (done i : ℕ) : Type 0 where
+pub record Walk (f rest₀ : List ℕ) (st₀ : State) (changes₀ : Version) (rest : List ℕ) (st : State) (changes : Version) (done i : ℕ) : Type 0 where
   pub ok : is_accepted (reading f) ≡ true
   pub ready : Ready st₀
   pub room : 12 * length (file_entries f) ≤ length rest₀
   pub few : changes₀.0 + length (file_entries f) < 4294967295
-  pub blocks : last ≡ blocks_after f
-  pub within : done ≤ last
+  pub within : done ≤ blocks_after f
   pub place : i ≡ length (entries_to f done)
   pub state : st ≡ after st₀ (entries_to f done)
   pub count : changes.0 ≡ changes₀.0 + change_count (notes st₀ (entries_to f done))
   pub log : rest ≡ records_of (map in_log (notes st₀ (entries_to f done))) ++ drop (12 * i) rest₀
 
 pub walk_start : (f rest₀ : List ℕ) (st₀ : State) (changes₀ : Version) → is_accepted (reading f) ≡ true → Ready st₀ → 12 * length (file_entries f) ≤ length rest₀
-    → changes₀.0 + length (file_entries f) < 4294967295 → Walk f rest₀ (length f / 512 - 1) st₀ changes₀ rest₀ st₀ changes₀ 0 0
+    → changes₀.0 + length (file_entries f) < 4294967295 → Walk f rest₀ st₀ changes₀ rest₀ st₀ changes₀ 0 0
 unfolding after notes change_count records_of
 walk_start f rest₀ st₀ changes₀ ok ready room few =
     record {
@@ -80,7 +79,6 @@ walk_start f rest₀ st₀ changes₀ ok ready room few =
       ready = ready;
       room = room;
       few = few;
-      blocks = refl;
       within = omega arith;
       place = rw (entries_none f);
       state = rw (entries_none f);
@@ -88,17 +86,17 @@ walk_start f rest₀ st₀ changes₀ ok ready room few =
       log = rw (entries_none f);
     }
 
-module _ {f rest₀ : List ℕ} {last : ℕ} {st₀ : State} {changes₀ : Version} {rest₁ : List ℕ} {st₁ : State} {changes₁ : Version} {done i₁ : ℕ}
-    (h : Walk f rest₀ last st₀ changes₀ rest₁ st₁ changes₁ done i₁) where
+module _ {f rest₀ : List ℕ} {st₀ : State} {changes₀ : Version} {rest₁ : List ℕ} {st₁ : State} {changes₁ : Version} {done i₁ : ℕ}
+    (h : Walk f rest₀ st₀ changes₀ rest₁ st₁ changes₁ done i₁) where
   -- how many entries there are up to the next block, and that there is room for their records
   next_count : length (entries_to f (done + 1)) ≡ i₁ + count (block_at f (done + 1))
   next_count = entries_more f done ∙ ap (λ (k : ℕ). k + count (block_at f (done + 1))) (sym h.place)
 
-  next_fits : done < last → i₁ + count (block_at f (done + 1)) ≤ length (file_entries f)
-  next_fits l = omega (arith, next_count, entries_fewer f (done + 1) (blocks_after f) (omega (arith, h.blocks)))
+  next_fits : done < blocks_after f → i₁ + count (block_at f (done + 1)) ≤ length (file_entries f)
+  next_fits l = omega (arith, next_count, entries_fewer f (done + 1) (blocks_after f) (omega arith))
 
   so_far_fits : i₁ ≤ length (file_entries f)
-  so_far_fits = omega (arith, h.place, entries_fewer f done (blocks_after f) (omega (arith, h.blocks, h.within)))
+  so_far_fits = omega (arith, h.place, entries_fewer f done (blocks_after f) h.within)
 
   abbrev so_far : List ℕ
   so_far = records_of (map in_log (notes st₀ (entries_to f done)))
@@ -109,11 +107,11 @@ module _ {f rest₀ : List ℕ} {last : ℕ} {st₀ : State} {changes₀ : Versi
   pub walk_length : length rest₁ ≡ length rest₀
   walk_length = rw (h.log, length-append, written_so_far, length-drop) (omega (arith, so_far_fits, h.room))
 
-  block_room : done < last → 4 + 12 * count (block_at f (done + 1)) ≤ length (block_at f (done + 1))
-  block_room l = accepted_room f h.ok (done + 1) (omega arith) (omega (arith, h.blocks))
+  block_room : done < blocks_after f → 4 + 12 * count (block_at f (done + 1)) ≤ length (block_at f (done + 1))
+  block_room l = accepted_room f h.ok (done + 1) (omega arith) (omega (arith, l))
 
   -- the part of the next block
-  module _ (l : done < last) (b part : List ℕ) (is : b ≡ block_at f (done + 1)) (used : part ≡ used_part b) where
+  module _ (l : done < blocks_after f) (b part : List ℕ) (is : b ≡ block_at f (done + 1)) (used : part ≡ used_part b) where
     part_size : length part / 12 ≡ count (block_at f (done + 1))
     part_size = rw (used, is, used_length (block_at f (done + 1)) (block_room l)) (omega arith)
 
@@ -128,7 +126,7 @@ module _ {f rest₀ : List ℕ} {last : ℕ} {st₀ : State} {changes₀ : Versi
         there = omega (arith, below, part_size)
 
         fine : kind_fine (entry_bytes next k) ≡ true
-        fine = later_kind next (done + 1) (accepted_block f h.ok (done + 1) (omega arith) (omega (arith, h.blocks))) k there
+        fine = later_kind next (done + 1) (accepted_block f h.ok (done + 1) (omega arith) (omega (arith, l))) k there
 
         read : entry_at (used_part next) k ≡ asked (fields_of (entry_bytes next k))
         read = used_entry next (block_room l) k ∙ block_entry next k there ∙ meant_asked (entry_bytes next k) fine
@@ -184,14 +182,13 @@ module _ {f rest₀ : List ℕ} {last : ℕ} {st₀ : State} {changes₀ : Versi
       joined : so_far ++ records_of (map in_log (notes st₁ (part_entries part j))) ≡ records_of (map in_log (notes st₀ (entries_to f (done + 1))))
       joined = rw (more_notes, map-append, records_append)
 
-      pub walk_next : Walk f rest₀ last st₀ changes₀ rest st changes (done + 1) i
+      pub walk_next : Walk f rest₀ st₀ changes₀ rest st changes (done + 1) i
       walk_next =
           record {
             ok = h.ok;
             ready = h.ready;
             room = h.room;
             few = h.few;
-            blocks = h.blocks;
             within = omega arith;
             place = omega (arith, t.place, turned, part_size, next_count);
             state = t.state ∙ rw (turn_entries, h.state) (sym (after_append st₀ es fs) ∙ ap (after st₀) file_entries_lem);
@@ -199,11 +196,11 @@ module _ {f rest₀ : List ℕ} {last : ℕ} {st₀ : State} {changes₀ : Versi
             log = t.log ∙ rw (front, behind, joined);
           }
 
-  pub walk_end : last ≤ done
+  pub walk_end : blocks_after f ≤ done
       → (record { state = st₁; changes = changes₁ } ≡ played_from (record { state = st₀; changes = changes₀ }) (file_entries f))
       × (rest₁ ≡ records_from (record { state = st₀; changes = changes₀ }) (file_entries f) rest₀)
   unfolding played_from records_from
   walk_end l = (rw (← top) (λ k. record { state = h.state k; changes = record { 0 = h.count k } }), rw (← top, ← h.place) h.log)
     where
       top : done ≡ blocks_after f
-      top = omega (arith, h.within, h.blocks, l)
+      top = omega (arith, h.within, l)

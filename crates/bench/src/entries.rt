@@ -21,64 +21,45 @@ pub(crate) fn play_entries(file: &[u8], rest: &mut [u8], from: Played) -> Played
     requires { (is_accepted (reading file.now) ≡ true) × (Ready from.state) × (12 * length (file_entries file.now) ≤ length rest.old) × (from.changes.0 + length (file_entries file.now) < 4294967295) }
     ensures { (result ≡ played_from from (file_entries file.now)) × (rest.new ≡ records_from from (file_entries file.now) rest.old) }
 {
-    let n = from.state.n;
-    let s = from.state.s;
-    let mut x = from.state.x;
-    let mut rows = from.state.rows;
-    let mut records = from.state.records;
-    let mut changes = from.changes;
-    let after = file.len() / 512 - 1;
-    let mut done = 0;
+    let Played { state, mut changes } = from;
+    let State {
+        n,
+        s,
+        mut x,
+        mut rows,
+        mut records,
+    } = state;
     let mut i = 0;
-    while done < after {
-        let k = done + 1;
-        let b = block_of(file, k);
-        let part = used_entries(b);
-        let end = part.len() / 12;
-        let mut j = 0;
-        while j < end {
-            let e = fields_at(part, j);
-            let byte = e.process;
-            let p = Process(byte as usize);
-            let code = e.kind;
-            let value = e.value;
-            let seat = seat_of(n, p);
-            let a = seat.0;
-            let found = records[a];
-            let own = found.fresh();
+    for k in 1..file.len() / 512 {
+        let part = used_entries(block_of(file, k));
+        for j in 0..part.len() / 12 {
+            let entry = fields_at(part, j);
+            let process = Process(entry.process as usize);
+            let seat = seat_of(n, process);
+            let own = records[seat.0].fresh();
             let reached = own.reached_row(seat);
-            let q = reached.0;
-            let row = rows[q];
             // The own steps are counted before the step, by its place: behind it the count would be one more jump at every place.
-            let place = own.place;
-            let ahead = steps_ahead(place, code);
-            let m = play_coded(n, s, p, Parts { x, own, row }, code, value);
-            let now = m.x;
-            let left = m.own;
-            let kept = left.kept;
-            let wrote = m.row;
-            let outcome = m.outcome;
-            rows[q] = wrote;
-            records[a] = left;
-            let note = note_of(byte, ahead, outcome, now, kept);
-            let at = 12 * i;
-            write_record(&mut rest[at..], note);
-            changes = count(changes, x, now);
-            x = now;
-            i = i + 1;
-            j = j + 1;
+            let ahead = steps_ahead(own.place, entry.kind);
+            let row = rows[reached.0];
+            let parts = Parts { x, own, row };
+            let left = play_coded(n, s, process, parts, entry.kind, entry.value);
+            rows[reached.0] = left.row;
+            records[seat.0] = left.own;
+            let note = note_of(entry.process, ahead, left.outcome, left.x, left.own.kept);
+            write_record(&mut rest[12 * i..], note);
+            changes = count(changes, x, left.x);
+            x = left.x;
+            i += 1;
         }
-        done = k;
     }
-    let state = State {
-        n: n,
-        s: s,
-        x: x,
-        rows: rows,
-        records: records,
-    };
     Played {
-        state: state,
-        changes: changes,
+        state: State {
+            n,
+            s,
+            x,
+            rows,
+            records,
+        },
+        changes,
     }
 }

@@ -48,9 +48,5 @@ pub(crate) fn count(changes: Version, before: Tag, after: Tag) -> Version
     requires { changes.0 < 4294967295 }
     ensures { result.0 ≡ changes.0 + cond (not (same_tag before after)) 1 0 }
 {
-    if before == after {
-        changes
-    } else {
-        Version(changes.0 + 1)
-    }
+    Version(changes.0 + u64::from(before != after))
 }

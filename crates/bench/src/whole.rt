@@ -14,12 +14,11 @@ use schedule::{Reading, read_file};
 fn turn_away(number: usize, block: usize, place: usize) -> Ran
     ensures { result ≡ ran_not number block place }
 {
-    let state = State::zero();
     Ran {
-        number: number,
-        block: block,
-        place: place,
-        state: state,
+        number,
+        block,
+        place,
+        state: State::zero(),
     }
 }
 
@@ -29,34 +28,28 @@ fn run_entries(file: &[u8], log: &mut [u8], n: u8, s: u64, v: u64, entries: usiz
     requires { (reading file.now ≡ Reading.Accepted n s v entries) × (log_length entries ≤ length log.old) }
     ensures { (result ≡ last_state file.now n s v) × (log.new ≡ written (notes_of file.now n s v) n log.old) }
 {
-    let size = n as usize;
-    let started = State::start(size, Sequence(s), v);
-    let state = started.state;
+    let started = State::start(n as usize, Sequence(s), v);
     let from = Played {
-        state: state,
+        state: started.state,
         changes: Version(0),
     };
     let count = entries as u32;
     lay_head(log, count, Version(0), n);
     let played = play_entries(file, &mut log[12..], from);
-    let last = played.state;
-    let changes = played.changes;
-    lay_head(log, count, changes, n);
-    last
+    lay_head(log, count, played.changes, n);
+    played.state
 }
 
 fn run_accepted(file: &[u8], log: &mut [u8], n: u8, s: u64, v: u64, entries: usize) -> Ran
     requires { reading file.now ≡ Reading.Accepted n s v entries }
     ensures { (result ≡ ran_by file.now log.old (Reading.Accepted n s v entries)) × (log.new ≡ log_by file.now log.old (Reading.Accepted n s v entries)) }
 {
-    let need = 12 + 12 * entries;
-    if need <= log.len() {
-        let state = run_entries(file, log, n, s, v, entries);
+    if 12 + 12 * entries <= log.len() {
         Ran {
             number: 0,
             block: 0,
             place: 0,
-            state: state,
+            state: run_entries(file, log, n, s, v, entries),
         }
     } else {
         turn_away(6, 0, 0)
@@ -68,8 +61,7 @@ fn run_accepted(file: &[u8], log: &mut [u8], n: u8, s: u64, v: u64, entries: usi
 pub fn run(file: &[u8], log: &mut [u8]) -> Ran
     ensures { (result ≡ ran_of file.now log.old) × (log.new ≡ log_after file.now log.old) }
 {
-    let answer = read_file(file);
-    match answer {
+    match read_file(file) {
         Reading::Refused {
             number,
             block,

@@ -7,16 +7,10 @@ use Rattle.bench.proofs.entries.play_entries.Given as goal
 
 abbrev pub invariant-loop-j : goal.invariant-loop-j
 invariant-loop-j l =
-    Turn l.part l.initial.rest l.end l.initial.i (record { n = l.n; s = l.s; x = l.initial.x; rows = l.initial.rows; records = l.initial.records }) l.initial.changes
+    Turn l.part l.initial.rest l.j-end l.initial.i (record { n = l.n; s = l.s; x = l.initial.x; rows = l.initial.rows; records = l.initial.records }) l.initial.changes
     l.rest (record { n = l.n; s = l.s; x = l.x; rows = l.rows; records = l.records }) l.changes l.i l.j
 
-abbrev pub decreases-loop-j : goal.decreases-loop-j
-decreases-loop-j l = l.end - l.j
-
-abbrev pub invariant-loop-done : goal.invariant-loop-done
-invariant-loop-done l =
-    Walk l.file l.initial.rest l.after (record { n = l.n; s = l.s; x = l.initial.x; rows = l.initial.rows; records = l.initial.records }) l.initial.changes
-    l.rest (record { n = l.n; s = l.s; x = l.x; rows = l.rows; records = l.records }) l.changes l.done l.i
-
-abbrev pub decreases-loop-done : goal.decreases-loop-done
-decreases-loop-done l = l.after - l.done
+abbrev pub invariant-loop-k : goal.invariant-loop-k
+invariant-loop-k l =
+    Walk l.file l.initial.rest (record { n = l.n; s = l.s; x = l.initial.x; rows = l.initial.rows; records = l.initial.records }) l.initial.changes
+    l.rest (record { n = l.n; s = l.s; x = l.x; rows = l.rows; records = l.records }) l.changes (l.k - 1) l.i
