@@ -1,11 +1,10 @@
 -- Lines of a log that go out in parts, and a log as a whole.
-use Rattle.std.proofs.Common.{◌≡◌, ℕ, suc, ◌+◌, ◌-◌, ◌<◌, ◌≤◌, List, ◌++◌, Option, Result, Ok, Err, OnOk, length, take, drop, refl, ap, sym, ◌∙◌, subst, arith, le-leb}
+use Rattle.std.proofs.Common.{◌≡◌, ℕ, suc, ◌+◌, ◌-◌, ◌<◌, ◌≤◌, List, ◌++◌, Option, Some, Result, Ok, Err, OnOk, length, take, drop, refl, ap, sym, ◌∙◌, subst, arith, le-leb}
 use Rattle.std.proofs.Math.Seq.{take_at}
 use Rattle.std.specs.Io.KnownBytes.{Appends}
 use Rattle.std.proofs.KnownBytes.{Appends-trans}
 use Rattle.run_log.specs.Found.{head_found}
 use Rattle.run_log.specs.declared.Head.{Head}
-use Rattle.text.specs.Types.{Laid}
 use Rattle.text.specs.declared.Filled.{Filled}
 use Rattle.text.specs.Lines.{head_text, lines_from, lines_fit, filled_text, filled_of, filled_in, text_of}
 use Rattle.text.proofs.Filling.{lines_append, fit_most}
@@ -41,7 +40,7 @@ part_shown a b c log out left place end filled e f before part =
     rw e (subst (Appends a c) (lines_more log out place end) (Appends-trans a b c _ _ before (rw (e, f) at part)))
 
 -- a log that has a head
-pub text_shown : {T E : Type 0} (r : Result T E) (a b c : Option (List ℕ)) (log : List ℕ) (head : Head) → head_found log ≡ Laid head
+pub text_shown : {T E : Type 0} (r : Result T E) (a b c : Option (List ℕ)) (log : List ℕ) (head : Head) → head_found log ≡ Some head
     → Appends a b (head_text (head_found log)) → OnOk r (Appends b c (lines_from log 0 head.entries)) → OnOk r (Appends a c (text_of log))
 unfolding text_of
 text_shown (Ok v) a b c log head e first lines = rw e (Appends-trans a b c _ _ (rw e at first) lines)
