@@ -18,7 +18,7 @@ use Rattle.machine.proofs.RunLaws.{ready_after, after_append, notes_append, note
 use Rattle.schedule.specs.File.{kind, process, value, kind_fine, entry_by, no_entry, meant, count, entry_bytes, block_entries, block_at, blocks_after, entries_to, file_entries, reading}
 use Rattle.schedule.specs.Direct.{is_accepted, fields_of, fields_at, entry_at, part_entries, used_part}
 use Rattle.schedule.proofs.Entries.{block_entry, part_entries_lem, used_length, used_entry, used_fields, entries_none, entries_next, entries_more}
-use Rattle.schedule.proofs.Accepted.{later_kind, accepted_block, accepted_room, accepted_bound}
+use Rattle.schedule.proofs.AcceptedFile.{later_kind, accepted_block, accepted_room, accepted_bound}
 use Rattle.run_log.specs.Log.{records_of}
 use Rattle.run_log.proofs.Laws.{records_length, records_append}
 use Rattle.bench.specs.Play.{played_from, records_from}

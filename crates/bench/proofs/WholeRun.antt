@@ -15,7 +15,7 @@ use Rattle.bench.specs.Types.{Started, Accepted, Played}
 use Rattle.machine.proofs.RunLaws.{ready_start, notes_length, count_most}
 use Rattle.schedule.specs.File.{file_entries, reading}
 use Rattle.schedule.specs.Direct.{is_accepted}
-use Rattle.schedule.proofs.Accepted.{accepted_answer, accepted_bound, accepted_start}
+use Rattle.schedule.proofs.AcceptedFile.{accepted_answer, accepted_bound, accepted_start}
 use Rattle.run_log.specs.Log.{laid, head_of, records_of, log_length}
 use Rattle.run_log.proofs.Laws.{head_length, laid_fits, tail_given, tail_back}
 use Rattle.bench.specs.Play.{played_from, records_from}

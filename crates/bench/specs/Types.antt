@@ -15,8 +15,7 @@ pub use Rattle.machine.specs.declared.Answer.{Answer}
 pub use Rattle.machine.specs.declared.Started.{Started}
 pub use Rattle.machine.specs.declared.State.{State}
 pub use Rattle.schedule.specs.declared.Fields.{Fields}
-pub use Rattle.schedule.specs.declared.Reading.{Reading}
-pub use Rattle.schedule.specs.declared.Reading.TheVariants.{Refused, Accepted}
+pub use Rattle.schedule.specs.Reading.{Reading, Refused, Accepted}
 pub use Rattle.run_log.specs.declared.Note.{Note}
 pub use Rattle.bench.specs.declared.Played.{Played}
 pub use Rattle.bench.specs.declared.Ran.{Ran}

@@ -1,6 +1,7 @@
 // The whole run of a file with a lent log.
 ghost use Rattle.std.specs.Prelude.{◌≡◌, ◌+◌, ◌*◌, ◌≤◌, ◌<◌, length};
 ghost use Rattle.schedule.specs.File.{reading};
+ghost use Rattle.schedule.specs.Reading.{Accepted};
 ghost use Rattle.bench.specs.Bench.{ran_not, notes_of, last_state, written, ran_by, log_by, ran_of, log_after};
 ghost use Rattle.run_log.specs.Log.{log_length};
 
@@ -9,7 +10,7 @@ use crate::{Played, Ran};
 use machine::State;
 use numbers::{Sequence, Version};
 use run_log::write::lay_head;
-use schedule::{Reading, read_file};
+use schedule::read_file;
 
 fn turn_away(number: usize, block: usize, place: usize) -> Ran
     ensures { result ≡ ran_not number block place }
@@ -25,7 +26,7 @@ fn turn_away(number: usize, block: usize, place: usize) -> Ran
 // An accepted file with room for its log. The head is laid first, with no change counted yet; the records go into the rest
 // behind it; and once the changes are known the head is laid with their count.
 fn run_entries(file: &[u8], log: &mut [u8], n: u8, s: u64, v: u64, entries: usize) -> State
-    requires { (reading file.now ≡ Reading.Accepted n s v entries) × (log_length entries ≤ length log.old) }
+    requires { (reading file.now ≡ Accepted n s v entries) × (log_length entries ≤ length log.old) }
     ensures { (result ≡ last_state file.now n s v) × (log.new ≡ written (notes_of file.now n s v) n log.old) }
 {
     let started = State::start(n as usize, Sequence(s), v);
@@ -41,8 +42,8 @@ fn run_entries(file: &[u8], log: &mut [u8], n: u8, s: u64, v: u64, entries: usiz
 }
 
 fn run_accepted(file: &[u8], log: &mut [u8], n: u8, s: u64, v: u64, entries: usize) -> Ran
-    requires { reading file.now ≡ Reading.Accepted n s v entries }
-    ensures { (result ≡ ran_by file.now log.old (Reading.Accepted n s v entries)) × (log.new ≡ log_by file.now log.old (Reading.Accepted n s v entries)) }
+    requires { reading file.now ≡ Accepted n s v entries }
+    ensures { (result ≡ ran_by file.now log.old (Accepted n s v entries)) × (log.new ≡ log_by file.now log.old (Accepted n s v entries)) }
 {
     if 12 + 12 * entries <= log.len() {
         Ran {
@@ -62,11 +63,10 @@ pub fn run(file: &[u8], log: &mut [u8]) -> Ran
     ensures { (result ≡ ran_of file.now log.old) × (log.new ≡ log_after file.now log.old) }
 {
     match read_file(file) {
-        Reading::Refused {
-            number,
-            block,
-            place,
-        } => turn_away(number, block, place),
-        Reading::Accepted { n, s, v, entries } => run_accepted(file, log, n, s, v, entries),
+        Ok(accepted) => {
+            let start = accepted.start;
+            run_accepted(file, log, start.n, start.s, start.v, accepted.entries)
+        }
+        Err(e) => turn_away(usize::from(e.refusal.number()), e.block, e.place),
     }
 }

@@ -14,7 +14,7 @@ use Rattle.machine.proofs.RunLaws.{notes_length, count_most}
 use Rattle.machine.proofs.Values.{values_below}
 use Rattle.schedule.specs.File.{reading, file_entries}
 use Rattle.linear.specs.Types.{Accepted, Head}
-use Rattle.schedule.proofs.Accepted.{accepted_answer}
+use Rattle.schedule.proofs.AcceptedFile.{accepted_answer}
 use Rattle.run_log.specs.Log.{head_of, records_of, log_length, head_in, notes_in}
 use Rattle.run_log.specs.Found.{log_of}
 use Rattle.run_log.specs.declared.Note as log

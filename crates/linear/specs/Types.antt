@@ -17,6 +17,6 @@ pub use Rattle.step.specs.declared.Stepped.{Stepped}
 pub use Rattle.step.specs.declared.Tag.{Tag}
 pub use Rattle.machine.specs.declared.Answer.{Answer}
 pub use Rattle.machine.specs.declared.State.{State}
-pub use Rattle.schedule.specs.declared.Reading.TheVariants.{Accepted}
+pub use Rattle.schedule.specs.Reading.{Accepted}
 pub use Rattle.run_log.specs.declared.Head.{Head}
 pub use Rattle.run_log.specs.declared.Note.{Note}

@@ -8,7 +8,7 @@ use native.Mathlib.Omega.{arith}
 use lib.Dec.{leb}
 use lib.ListN.{length, length-append}
 use Rattle.schedule.specs.File.{reading, file_entries}
-use Rattle.schedule.proofs.Accepted.{accepted_bound}
+use Rattle.schedule.proofs.AcceptedFile.{accepted_bound}
 use Rattle.schedule.proofs.Low.{Low, reading_low}
 use Rattle.writer.specs.Made.{start_line, entry_lines, text_made, listing}
 use Rattle.lister.specs.Types.{Reading, Refused, Accepted, Listed}

@@ -15,7 +15,7 @@ use Rattle.requests.specs.declared.Request.TheVariants.{Load, Store, Check}
 use Rattle.text.proofs.Digits.{decimal_length}
 use Rattle.schedule.specs.File.{reading, block_at, blocks_after, entries_to}
 use Rattle.schedule.specs.Direct.{is_accepted, entry_at, used_part, part_entries}
-use Rattle.schedule.proofs.Accepted.{accepted_room}
+use Rattle.schedule.proofs.AcceptedFile.{accepted_room}
 use Rattle.schedule.proofs.Entries.{part_more, part_entries_lem, entries_next}
 use Rattle.writer.specs.Made.{kind_line, entry_line, entry_lines, start_line}
 

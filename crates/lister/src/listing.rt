@@ -2,6 +2,7 @@
 ghost use Rattle.std.specs.Prelude.{◌≡◌, true, ◌≤◌, length};
 ghost use Rattle.std.proofs.lemmas.List.Edits.{sets};
 ghost use Rattle.schedule.specs.File.{reading};
+ghost use Rattle.schedule.specs.Reading.{Accepted};
 ghost use Rattle.schedule.specs.Direct.{is_accepted};
 ghost use Rattle.writer.specs.Made.{listing};
 ghost use Rattle.lister.specs.Lister.{listed_by, listed_in_by, listed_of, listed_in};
@@ -10,7 +11,7 @@ use crate::Listed;
 use crate::length::Length;
 use crate::page::Page;
 use crate::put::put_text;
-use schedule::{Reading, read_file};
+use schedule::read_file;
 
 // The text of an accepted file, at the front of a lent part that has room for it.
 fn lay_text(out: &mut [u8], file: &[u8], n: u8, s: u64, v: u64)
@@ -23,9 +24,9 @@ fn lay_text(out: &mut [u8], file: &[u8], n: u8, s: u64, v: u64)
 
 // An accepted file.
 fn list_accepted(file: &[u8], out: &mut [u8], n: u8, s: u64, v: u64, entries: usize) -> Listed
-    requires { reading file.now ≡ Reading.Accepted n s v entries }
-    ensures { (result ≡ listed_by file.now out.old (Reading.Accepted n s v entries))
-        × (out.new ≡ listed_in_by file.now out.old (Reading.Accepted n s v entries)) }
+    requires { reading file.now ≡ Accepted n s v entries }
+    ensures { (result ≡ listed_by file.now out.old (Accepted n s v entries))
+        × (out.new ≡ listed_in_by file.now out.old (Accepted n s v entries)) }
 {
     let mut length = Length { bytes: 0 };
     put_text(&mut length, file, n, s, v);
@@ -52,18 +53,16 @@ fn list_accepted(file: &[u8], out: &mut [u8], n: u8, s: u64, v: u64, entries: us
 pub fn list_file(file: &[u8], out: &mut [u8]) -> Listed
     ensures { (result ≡ listed_of file.now out.old) × (out.new ≡ listed_in file.now out.old) }
 {
-    let answer = read_file(file);
-    match answer {
-        Reading::Refused {
-            number,
-            block,
-            place,
-        } => Listed {
-            number: number,
-            block: block,
-            place: place,
+    match read_file(file) {
+        Ok(accepted) => {
+            let start = accepted.start;
+            list_accepted(file, out, start.n, start.s, start.v, accepted.entries)
+        }
+        Err(e) => Listed {
+            number: usize::from(e.refusal.number()),
+            block: e.block,
+            place: e.place,
             length: 0,
         },
-        Reading::Accepted { n, s, v, entries } => list_accepted(file, out, n, s, v, entries),
     }
 }

@@ -9,7 +9,7 @@ use Rattle.numbers.specs.Refusals.{refusal_number, number_in}
 use Rattle.numbers.specs.Types.{Refusal, Length, Check, Place, Entries, LogRoom, Processes, LastNumber, BlockCount, StrayByte, CircleSize, Form, TooMany, OutputRoom}
 
 -- the refusal of a number
-abbrev refusal_of : ℕ → Refusal
+abbrev pub refusal_of : ℕ → Refusal
 refusal_of n =
     cond (eqb n 1) Length
     (cond (eqb n 2) Check
@@ -24,7 +24,7 @@ refusal_of n =
     (cond (eqb n 25) Form
     (cond (eqb n 26) TooMany OutputRoom)))))))))))
 
-refusal_back : (e : Refusal) → refusal_of (refusal_number e) ≡ e
+pub refusal_back : (e : Refusal) → refusal_of (refusal_number e) ≡ e
 refusal_back Length = refl
 refusal_back Check = refl
 refusal_back Place = refl

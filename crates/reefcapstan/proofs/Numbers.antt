@@ -9,8 +9,7 @@ use borrow.Author.Tests.{le-leb, lt-leb}
 use lib.Dec.{eqb, leb}
 use lib.ListN.{length}
 use Rattle.schedule.specs.File.{reading}
-use Rattle.schedule.specs.declared.Reading.{Reading}
-use Rattle.schedule.specs.declared.Reading.TheVariants.{Refused, Accepted}
+use Rattle.schedule.specs.Reading.{Reading, Refused, Accepted}
 use Rattle.schedule.proofs.Low.{Low, reading_low}
 use Rattle.run_log.specs.Log.{log_length}
 use Rattle.bench.specs.declared.Ran.{Ran}

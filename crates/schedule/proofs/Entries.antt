@@ -12,12 +12,11 @@ use borrow.Author.Tests.{le-leb, lt-leb, leb-true}
 use lib.ListN.{length, get_or, take, drop, length-append, get_or-append, get_or-eq_default}
 use lib.Seq.{take-take, drop-drop, get_or-append-add}
 use lib.Dec.{eqb, leb}
-use Rattle.std.specs.List.{list_all}
 use Rattle.std.specs.Simd.{first_chunks}
 use Rattle.numbers.proofs.Below.{listed_length, listed_at, same_below}
-use Rattle.schedule.specs.File.{count, entry_fine, entries_fine, entry_bytes, no_entry, meant, later_number, block_entries, block_at, entries_to}
+use Rattle.schedule.specs.File.{count, entry_bytes, no_entry, meant, later_number, block_entries, block_at, entries_to}
 use Rattle.schedule.specs.Direct.{used_part, accepted_part, entry_at, fields_of, fields_at, part_entries}
-use Rattle.schedule.proofs.Laws.{part_length, same_all, chunks_all}
+use Rattle.schedule.proofs.Laws.{part_length, chunk_read}
 
 -- a part of a part is a part of the whole
 pub part_of_part : (l : List ℕ) (m n k : ℕ) → m + n ≤ k → take n (drop m (take k l)) ≡ take n (drop m l)
@@ -63,17 +62,22 @@ module _ (b : List ℕ) (room : 4 + 12 * count b ≤ length b) where
       rw (used_length, le-leb (12 * j + 12) (12 * count b) (omega arith), used_is)
       (ap fields_of (part_of_part (drop 4 b) (12 * j) 12 (12 * count b) (omega arith) ∙ ap (take 12) (drop-drop (12 * j) 4 b)))
 
--- a test of the first n entries of a block, cut into chunks
-pub entries_all : (b : List ℕ) (n : ℕ) → 4 + 12 * n ≤ length b
-    → list_all entry_fine (first_chunks 12 (length (take (4 + 12 * n - 4) (drop 4 b)) / 12) (take (4 + 12 * n - 4) (drop 4 b))) ≡ entries_fine b n
-entries_all b n room =
-    let whole : 4 + 12 * n - 4 ≡ 12 * n = omega arith in
-    let many : 12 * n / 12 ≡ n = omega arith in
-    let each : (j : ℕ) → j < n → entry_fine (take 12 (drop (12 * j) (take (12 * n) (drop 4 b)))) ≡ entry_fine (entry_bytes b j) =
-        λ j l. ap entry_fine (part_of_part (drop 4 b) (12 * j) 12 (12 * n) (omega arith) ∙ ap (take 12) (drop-drop (12 * j) 4 b)) in
-    rw (whole, part_length b 4 (12 * n) room, many)
-    (chunks_all entry_fine 12 n (take (12 * n) (drop 4 b))
-    ∙ same_all n (λ j. entry_fine (take 12 (drop (12 * j) (take (12 * n) (drop 4 b))))) (λ j. entry_fine (entry_bytes b j)) each)
+-- the first n entries of a block, cut into chunks
+module _ (b : List ℕ) (n : ℕ) (room : 4 + 12 * n ≤ length b) where
+  part_is : take (4 + 12 * n - 4) (drop 4 b) ≡ take (12 * n) (drop 4 b)
+  part_is =
+      let whole : 4 + 12 * n - 4 ≡ 12 * n = omega arith in
+      rw whole
+
+  pub chunk_count : length (take (4 + 12 * n - 4) (drop 4 b)) / 12 ≡ n
+  chunk_count = rw (part_is, part_length b 4 (12 * n) room) (omega arith)
+
+  pub chunk_entry : (cs : List (List ℕ)) (j : ℕ) (d : List ℕ)
+      → cs ≡ first_chunks 12 (length (take (4 + 12 * n - 4) (drop 4 b)) / 12) (take (4 + 12 * n - 4) (drop 4 b)) → j < n
+      → get_or cs j d ≡ entry_bytes b j
+  chunk_entry cs j d e l =
+      chunk_read 12 (take (4 + 12 * n - 4) (drop 4 b)) cs j d e (rw chunk_count l)
+      ∙ rw part_is (part_of_part (drop 4 b) (12 * j) 12 (12 * n) (omega arith) ∙ ap (take 12) (drop-drop (12 * j) 4 b))
 
 -- the entries of no block, and of one block more
 pub entries_none : (f : List ℕ) → entries_to f 0 ≡ []

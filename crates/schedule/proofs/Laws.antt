@@ -1,7 +1,7 @@
 -- Laws of the definitions, for the proofs beside this file and for the floors above.
 -- Assumes nothing.
 use mathlib.Core.Path.{◌≡◌, refl, ap, ◌∙◌}
-use mathlib.Core.Bool.{Bool, ◌&&◌}
+use mathlib.Core.Bool.{◌&&◌}
 use mathlib.Core.List.{List, ◌∷◌}
 use Prim.Native.Nat.{ℕ, zero, suc, ◌+◌, ◌-◌, ◌*◌, ◌/◌, ◌≤◌, ◌<◌}
 use native.Mathlib.Nat.{zero-add, add-zero, add-suc, mul-zero, mul-suc, mul-le-mul}
@@ -11,7 +11,6 @@ use borrow.Author.Tests.{ne_eqb}
 use lib.ListN.{length, get_or, take, drop, length-drop, get_or-eq_default}
 use lib.Seq.{length-take-le, get_or-take, get_or-drop, drop-drop}
 use lib.Dec.{eqb}
-use Rattle.std.specs.List.{list_all}
 use Rattle.std.specs.Simd.{first_chunks}
 use Rattle.numbers.specs.Numbers.{number_at, all_below}
 use Rattle.numbers.proofs.Below.{all_front}
@@ -95,8 +94,8 @@ stray_first b p (suc n) i l pos some first = go (λ m. stray_first b p n i m pos
         let e : n ≡ i = omega (arith, m) in
         rw (e, stray_none b p i first, ne_eqb (get_or b (p + i) 0) 0 some)
 
--- the chunks that a list is cut into: the one at a place, and a test of all of them
-pub chunk_at : (m n : ℕ) (xs : List ℕ) (j : ℕ) (d : List ℕ) → j < n → get_or (first_chunks m n xs) j d ≡ take m (drop (m * j) xs)
+-- the chunks that a list is cut into, by their places
+chunk_at : (m n : ℕ) (xs : List ℕ) (j : ℕ) (d : List ℕ) → j < n → get_or (first_chunks m n xs) j d ≡ take m (drop (m * j) xs)
 chunk_at m zero xs j d h = absurd (omega arith)
 chunk_at m (suc n) xs zero d h = rw (mul-zero m)
 chunk_at m (suc n) xs (suc j) d h =
@@ -118,15 +117,3 @@ chunk_behind m f cs i d e n h =
 
 pub behind_length : (cs : List (List ℕ)) → length (take (length cs - 1) (drop 1 cs)) ≡ length cs - 1
 behind_length cs = length-take-le (length cs - 1) (drop 1 cs) (simp length-drop (omega arith))
-
-pub same_all : (n : ℕ) (f g : ℕ → Bool) → ((j : ℕ) → j < n → f j ≡ g j) → all_below n f ≡ all_below n g
-same_all zero f g h = refl
-same_all (suc n) f g h = rw (same_all n f g (λ j l. h j (omega arith)), h n (omega arith))
-
-pub chunks_all : (f : List ℕ → Bool) (m n : ℕ) (xs : List ℕ) → list_all f (first_chunks m n xs) ≡ all_below n (λ j. f (take m (drop (m * j) xs)))
-chunks_all f m zero xs = refl
-chunks_all f m (suc n) xs =
-    let next : (j : ℕ) → j < n → f (take m (drop (m * j) (drop m xs))) ≡ f (take m (drop (m * suc j) xs)) =
-        λ j l. let e : m + m * j ≡ m * suc j = omega (arith, mul-suc m j) in rw (drop-drop (m * j) m xs, e) in
-    rw (all_front n (λ j. f (take m (drop (m * j) xs))), mul-zero m, chunks_all f m n (drop m xs),
-      same_all n (λ j. f (take m (drop (m * j) (drop m xs)))) (λ j. f (take m (drop (m * suc j) xs))) next)

@@ -1,7 +1,8 @@
 pub mod Laws
 pub mod Halves
 pub mod Entries
-pub mod Accepted
+pub mod AcceptedFile
 pub mod WorkedFile
 pub mod Low
 pub mod Header
+pub mod Told

@@ -10,7 +10,7 @@ use lib.ListN.{length, get_or}
 use Rattle.numbers.specs.Numbers.{in_range_n, in_range_s, number_unless, first_found, first_below, range_number}
 use Rattle.schedule.specs.File.{check_fine, place_fine, block_number, start_n, start_s, later_blocks, first_clear, first_rest, first_number, stray_of, first_stray, place_with, later_fine, later_number, length_fine, block_at, blocks_after, found, found_in_first, in_turn, accepted_as, reading}
 use Rattle.schedule.specs.Types.{Reading, Refused, Accepted}
-use Rattle.schedule.proofs.Accepted.{length_blocks}
+use Rattle.schedule.proofs.AcceptedFile.{length_blocks}
 
 abbrev pub Low : Reading → Type 0
 Low (Refused n k place) = (n ≤ 19) × (k ≤ 127) × (place ≤ 509)

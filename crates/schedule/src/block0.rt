@@ -1,12 +1,14 @@
 // Block 0.
 ghost use Rattle.std.specs.Prelude.{◌≡◌};
+ghost use Rattle.numbers.specs.Refusals.{refusal_number, number_in};
 ghost use Rattle.schedule.specs.File.{first_clear, first_rest, first_number, first_stray, place_with};
 ghost use Rattle.schedule.specs.Direct.{first_of};
+ghost use Rattle.schedule.specs.Told.{first_block_of};
 
-use crate::FirstBlock;
 use crate::bytes::{clear, eight, four, two};
-use crate::check::number_of;
-use numbers::{Sequence, first_found, number_unless, range_number};
+use crate::check::check_frame;
+use crate::{FirstRefusal, Start};
+use numbers::{Refusal, Sequence, check_range};
 
 // Whether block 0 has no stray byte.
 fn first_clear(b: &[u8; 512]) -> bool
@@ -15,22 +17,27 @@ fn first_clear(b: &[u8; 512]) -> bool
     b[3] == 0 && clear(&b[18..510])
 }
 
-// The number that N, S, the block count or a stray byte gives in a file with `after` blocks behind block 0, or 0.
-fn first_rest(b: &[u8; 512], after: usize) -> usize
-    ensures { result ≡ first_rest b.now after }
+// What refuses block 0 of a file with `after` blocks behind it by N, S, the block count or a stray byte.
+fn check_rest(b: &[u8; 512], after: usize) -> Result<(), Refusal>
+    ensures { number_in result ≡ first_rest b.now after }
 {
-    let range = range_number(usize::from(b[2]), Sequence(u64::from(four(b, 4))));
-    let count = number_unless(usize::from(two(b, 16)) == after, 18);
-    let stray = number_unless(first_clear(b), 19);
-    first_found(range, first_found(count, stray))
+    check_range(usize::from(b[2]), Sequence(u64::from(four(b, 4))))?;
+    if usize::from(two(b, 16)) != after {
+        return Err(Refusal::BlockCount);
+    }
+    if !first_clear(b) {
+        return Err(Refusal::StrayByte);
+    }
+    Ok(())
 }
 
-// The number that refuses block 0, or 0.
+// What refuses block 0.
 #[tactic(auto, unfolding(crate::specs::File::first_number))]
-pub(crate) fn first_number(b: &[u8; 512], after: usize) -> usize
-    ensures { result ≡ first_number b.now after }
+fn check_first(b: &[u8; 512], after: usize) -> Result<(), Refusal>
+    ensures { number_in result ≡ first_number b.now after }
 {
-    number_of(b, 0, first_rest(b, after))
+    check_frame(b, 0)?;
+    check_rest(b, after)
 }
 
 // The place of the first stray byte of block 0, or 0.
@@ -46,32 +53,44 @@ fn first_stray(b: &[u8; 512]) -> usize
     }
 }
 
-// The place that goes with a number of block 0. It is looked for where the number asks for it, and not in a block that is accepted.
-pub(crate) fn place_with(number: usize, b: &[u8; 512]) -> usize
-    ensures { result ≡ place_with number b.now }
+// The place that goes with a refusal of block 0. It is looked for where the refusal asks for it, and not in a block that is accepted.
+fn place_with(refusal: Refusal, b: &[u8; 512]) -> usize
+    ensures { result ≡ place_with (refusal_number refusal) b.now }
 {
-    if number == 19 { first_stray(b) } else { 0 }
+    match refusal {
+        Refusal::StrayByte => first_stray(b),
+        _ => 0,
+    }
+}
+
+// Block 0, a whole one.
+#[tactic(auto, unfolding(crate::specs::Direct::first_of))]
+pub(crate) fn read_whole(b: &[u8; 512], after: usize) -> Result<Start, FirstRefusal>
+    ensures { first_block_of result ≡ first_of b.now after }
+{
+    match check_first(b, after) {
+        Ok(()) => Ok(Start {
+            n: b[2],
+            s: u64::from(four(b, 4)),
+            v: eight(b, 8),
+        }),
+        Err(refusal) => Err(FirstRefusal {
+            refusal,
+            place: place_with(refusal, b),
+        }),
+    }
 }
 
 // Block 0 of a file with `after` blocks behind it.
 #[tactic(auto, unfolding(crate::specs::Direct::first_of))]
-pub fn read_first(b: &[u8], after: usize) -> FirstBlock
-    ensures { result ≡ first_of b.now after }
+pub fn read_first(b: &[u8], after: usize) -> Result<Start, FirstRefusal>
+    ensures { first_block_of result ≡ first_of b.now after }
 {
-    let Ok(b) = <&[u8; 512]>::try_from(b) else {
-        return FirstBlock::FirstRefused {
-            number: 1,
+    match <&[u8; 512]>::try_from(b) {
+        Ok(b) => read_whole(b, after),
+        Err(_) => Err(FirstRefusal {
+            refusal: Refusal::Length,
             place: 0,
-        };
-    };
-    let number = first_number(b, after);
-    if number != 0 {
-        let place = place_with(number, b);
-        return FirstBlock::FirstRefused { number, place };
-    }
-    FirstBlock::Start {
-        n: b[2],
-        s: u64::from(four(b, 4)),
-        v: eight(b, 8),
+        }),
     }
 }

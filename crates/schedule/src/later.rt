@@ -1,34 +1,42 @@
 // The blocks after block 0, and the entries in them.
-ghost use Rattle.std.specs.Prelude.{◌≡◌, ◌≤◌, ◌<◌};
+ghost use Rattle.std.specs.Prelude.{◌≡◌, ◌≤◌, ◌<◌, IfOk};
+ghost use Rattle.numbers.specs.Refusals.{number_in};
 ghost use Rattle.schedule.specs.File.{entry_clear, entry_fine, count, entries_fine, rest_clear, later_fine, later_number, no_entry, meant};
 ghost use Rattle.schedule.specs.Direct.{later_of, entry_at, fields_of, no_fields, fields_at, used_part, accepted_part};
+ghost use Rattle.schedule.specs.Told.{later_block_of};
 
+use crate::Fields;
 use crate::bytes::{clear, eight, two};
-use crate::check::number_of;
-use crate::{Block, Fields};
-use numbers::{Process, number_unless};
+use crate::check::check_frame;
+use numbers::{Process, Refusal};
 use step::{Entry, Kind, Request};
 
 // Whether an entry has no stray byte. The bytes that should be zero are read as one number.
 fn entry_clear(e: &[u8; 12]) -> bool
     ensures { result ≡ entry_clear e.now }
 {
-    two(e, 2) == 0 && (e[0] == 2 || eight(e, 4) == 0)
+    (two(e, 2) == 0) & ((e[0] == 2) | (eight(e, 4) == 0))
 }
 
 // Whether an entry has a kind that there is, and no stray byte.
 fn entry_fine(e: &[u8; 12]) -> bool
     ensures { result ≡ entry_fine e.now }
 {
-    matches!(e[0], 1..=4) && entry_clear(e)
+    (1 <= e[0]) & (e[0] <= 4) & entry_clear(e)
 }
 
-// Whether the entries of a block are as they should be.
+// Whether the first `c` entries of a block are as they should be. All are tested, and the tests joined with no way out before the end, so
+// that the compiler can test several entries at once.
 fn entries_fine(b: &[u8; 512], c: usize) -> bool
     requires { c ≤ 42 }
     ensures { result ≡ entries_fine b.now c }
 {
-    b[4..4 + 12 * c].as_chunks().0.iter().all(entry_fine)
+    let (entries, _) = b[4..4 + 12 * c].as_chunks();
+    let mut fine = true;
+    for e in entries {
+        fine &= entry_fine(e);
+    }
+    fine
 }
 
 // Whether a block with `c` entries has no stray byte outside them.
@@ -50,27 +58,27 @@ fn later_fine(b: &[u8; 512]) -> bool
     entries_fine(b, c) && rest_clear(b, c)
 }
 
-// The number that refuses block k, or 0.
+// How many entries block k has, a whole one, or what refuses it.
 #[tactic(auto, unfolding(crate::specs::File::later_number))]
-pub(crate) fn later_number(b: &[u8; 512], k: usize) -> usize
-    ensures { result ≡ later_number b.now k }
+pub(crate) fn count_entries(b: &[u8; 512], k: usize) -> Result<usize, Refusal>
+    ensures { (number_in result ≡ later_number b.now k) × IfOk result (λ entries. entries ≡ count b.now) }
 {
-    number_of(b, k, number_unless(later_fine(b), 5))
+    check_frame(b, k)?;
+    if !later_fine(b) {
+        return Err(Refusal::Entries);
+    }
+    Ok(usize::from(b[2]))
 }
 
-// Block k, where k is not 0.
+// Block k, where k is not 0: how many entries it has.
 #[tactic(auto, unfolding(crate::specs::Direct::later_of))]
-pub fn read_block(b: &[u8], k: usize) -> Block
-    ensures { result ≡ later_of b.now k }
+pub fn read_block(b: &[u8], k: usize) -> Result<usize, Refusal>
+    ensures { later_block_of result ≡ later_of b.now k }
 {
-    let Ok(b) = <&[u8; 512]>::try_from(b) else {
-        return Block::BlockRefused(1);
-    };
-    let number = later_number(b, k);
-    if number != 0 {
-        return Block::BlockRefused(number);
+    match <&[u8; 512]>::try_from(b) {
+        Ok(b) => count_entries(b, k),
+        Err(_) => Err(Refusal::Length),
     }
-    Block::Entries(usize::from(b[2]))
 }
 
 // The part of a block with the entries that its count speaks of. No test is made of them: this is for a block that is known
@@ -90,17 +98,12 @@ pub fn used_entries(b: &[u8]) -> &[u8]
 }
 
 // The part of block k with its entries, where k is not 0: of a refused block an empty part.
-#[tactic(auto, unfolding(crate::specs::Direct::accepted_part))]
+#[tactic(auto, unfolding(crate::specs::Direct::later_of, crate::specs::Direct::accepted_part))]
 pub fn entries_of(b: &[u8], k: usize) -> &[u8]
     ensures { result.now ≡ accepted_part b.now k }
 {
-    match <&[u8; 512]>::try_from(b) {
-        Ok(block) => {
-            if later_number(block, k) != 0 {
-                return &b[..0];
-            }
-            used_entries(b)
-        }
+    match read_block(b, k) {
+        Ok(_) => used_entries(b),
         Err(_) => &b[..0],
     }
 }

@@ -12,19 +12,21 @@ pub use block0::read_first;
 pub use check::check_of;
 pub use file::{block_of, read_file};
 pub use later::{entries_of, entry_at, fields_at, read_block, used_entries};
+use numbers::Refusal;
 
-// What block 0 says: the number that refuses it, with the place of the first stray byte or 0, or N, S and V.
+// What block 0 says: N, S and V.
 #[derive(Clone, Copy)]
-pub enum FirstBlock {
-    FirstRefused { number: usize, place: usize },
-    Start { n: u8, s: u64, v: u64 },
+pub struct Start {
+    pub n: u8,
+    pub s: u64,
+    pub v: u64,
 }
 
-// What a later block says: the number that refuses it, or how many entries it has.
+// What refuses block 0, with the place of the first stray byte or 0.
 #[derive(Clone, Copy)]
-pub enum Block {
-    BlockRefused(usize),
-    Entries(usize),
+pub struct FirstRefusal {
+    pub refusal: Refusal,
+    pub place: usize,
 }
 
 // What the bytes of an entry say, field by field: its kind byte (1 to 4 in an accepted file), its process, its value.
@@ -35,19 +37,17 @@ pub struct Fields {
     pub value: u64,
 }
 
-// What a whole file says: the number that refuses it with the block where it was found and the place of the first stray byte or 0, or N,
-// S, V and how many entries it has.
+// What an accepted file says: its start, and how many entries it has.
 #[derive(Clone, Copy)]
-pub enum Reading {
-    Refused {
-        number: usize,
-        block: usize,
-        place: usize,
-    },
-    Accepted {
-        n: u8,
-        s: u64,
-        v: u64,
-        entries: usize,
-    },
+pub struct Accepted {
+    pub start: Start,
+    pub entries: usize,
+}
+
+// What refuses a file, with the block where it was found and the place of the first stray byte or 0.
+#[derive(Clone, Copy)]
+pub struct FileRefusal {
+    pub refusal: Refusal,
+    pub block: usize,
+    pub place: usize,
 }

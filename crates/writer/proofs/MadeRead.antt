@@ -12,7 +12,7 @@ use lib.Seq.{take_at, take_all, take-add, drop-append-add, drop-drop, get_or-tak
 use Rattle.numbers.specs.Numbers.{in_range}
 use Rattle.numbers.proofs.Range.{range_of}
 use Rattle.schedule.specs.File.{no_entry, count, block_at, blocks_after, entries_to, file_entries, later_number, length_fine, reading}
-use Rattle.schedule.proofs.Accepted.{accepted_if}
+use Rattle.schedule.proofs.AcceptedFile.{accepted_if}
 use Rattle.writer.specs.Types.{Entry, Accepted}
 use Rattle.writer.specs.Made.{kind_value, first_made, later_made, packed, blocks_for, file_made}
 use Rattle.writer.proofs.Small.{AllSmall}

@@ -9,7 +9,7 @@ use lib.ListN.{length}
 use Rattle.numbers.specs.Numbers.{in_range}
 use Rattle.numbers.proofs.Range.{range_of}
 use Rattle.schedule.specs.File.{reading, file_entries}
-use Rattle.schedule.proofs.Accepted.{accepted_answer, accepted_start, accepted_bound}
+use Rattle.schedule.proofs.AcceptedFile.{accepted_answer, accepted_start, accepted_bound}
 use Rattle.writer.specs.Types.{Entry, Accepted}
 use Rattle.writer.specs.Form.{outside, further, text_n, text_s, text_v, text_entries}
 use Rattle.writer.specs.Made.{file_made, text_made}

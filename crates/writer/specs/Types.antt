@@ -3,7 +3,7 @@ pub use Rattle.step.specs.Types.{Entry}
 pub use Rattle.step.specs.Types.{Kind}
 pub use Rattle.requests.specs.declared.Kind.TheVariants.{Ask, Step}
 pub use Rattle.requests.specs.declared.Request.TheVariants.{Load, Store, Check}
-pub use Rattle.schedule.specs.declared.Reading.TheVariants.{Accepted}
+pub use Rattle.schedule.specs.Reading.{Accepted}
 pub use Rattle.writer.specs.declared.Line.{Line}
 pub use Rattle.writer.specs.declared.Lines.{Lines}
 pub use Rattle.writer.specs.declared.Numeral.{Numeral}

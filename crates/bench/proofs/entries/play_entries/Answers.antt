@@ -1,6 +1,6 @@
 -- Each turn of the inner loop is `turn_next`, and where that loop ends, one block more is done (`walk_next`).
 use Rattle.std.proofs.Common.{◌≡◌, ◌+◌, ◌-◌, arith}
-use Rattle.schedule.proofs.Accepted.{accepted_length}
+use Rattle.schedule.proofs.AcceptedFile.{accepted_length}
 use Rattle.bench.proofs.Turn.{turn_next, seat_there, row_there, count_low}
 use Rattle.bench.proofs.Walk.{walk_start, walk_next, walk_end, block_start}
 use Rattle.bench.proofs.entries.play_entries.Goals as goal

@@ -1,7 +1,7 @@
 use Rattle.std.proofs.Common.{◌≡◌, ◌+◌, ◌-◌, ◌/◌, ◌++◌, length, ap, ◌∙◌, arith, length-append}
 use Rattle.schedule.specs.File.{blocks_after, entries_to}
 use Rattle.schedule.specs.Direct.{used_part, part_entries}
-use Rattle.schedule.proofs.Accepted.{accepted_length}
+use Rattle.schedule.proofs.AcceptedFile.{accepted_length}
 use Rattle.writer.specs.Made.{entry_lines}
 use Rattle.lister.proofs.Sizes.{block_lines, file_grows}
 use Rattle.lister.proofs.put.put_entries.Goals as goal

@@ -15,9 +15,9 @@ returns-in-Some c =
     let b = c.args.b.now in
     let i = c.in-Some.i in
     let first =
-        if_some _ _ _ c.in-Some.is
-        (IsFirst-from_position _ _ _ (λ x. x ≡ 0 → ⊥) (λ x. x ≡ 0) c.position.ensures.ran (YieldsList-from_slice _ c.iter.ensures.rest)
-        (λ x q k. search (rules, tests)) (λ x q k. search (rules, tests))) in
+    if_some _ _ _ c.in-Some.is
+    (IsFirst-from_position _ _ _ (λ x. x ≡ 0 → ⊥) (λ x. x ≡ 0) c.position.ensures.ran (YieldsList-from_slice _ c.iter.ensures.rest)
+    (λ x q k. search (rules, tests)) (λ x q k. search (rules, tests))) in
     let many : length (take 492 (drop 18 b)) ≡ 492 = part_length b 18 492 (omega arith) in
     let l : i < 492 = rw many at first.0 in
     rw (c.if-b-ne0.false)
@@ -27,8 +27,8 @@ pub returns-in-None : goal.returns-in-None
 returns-in-None c =
     let b = c.args.b.now in
     let none =
-        if_none _ _ c.in-None.is
-        (IsFirst-from_position _ _ _ (λ x. x ≡ 0 → ⊥) (λ x. x ≡ 0) c.position.ensures.ran (YieldsList-from_slice _ c.iter.ensures.rest)
-        (λ x q k. search (rules, tests)) (λ x q k. search (rules, tests))) in
+    if_none _ _ c.in-None.is
+    (IsFirst-from_position _ _ _ (λ x. x ≡ 0 → ⊥) (λ x. x ≡ 0) c.position.ensures.ran (YieldsList-from_slice _ c.iter.ensures.rest)
+    (λ x q k. search (rules, tests)) (λ x q k. search (rules, tests))) in
     let many : length (take 492 (drop 18 b)) ≡ 492 = part_length b 18 492 (omega arith) in
     rw (c.if-b-ne0.false) (sym (stray_none b 18 492 (λ k m. sym (at b k m) ∙ none k 0 (omega arith) (rw many m))))

@@ -1,13 +1,23 @@
-use Rattle.std.proofs.Common.{◌≡◌, ap, ◌∙◌, arith, rules, tests}
-use Rattle.std.specs.List.{list_all}
-use Rattle.std.proofs.lemmas.Iterator.{YieldsList-from_slice}
-use Rattle.std.proofs.lemmas.Iterator.Search.{all_from_yields_List}
-use Rattle.schedule.specs.File.{entry_fine}
-use Rattle.schedule.proofs.Entries.{entries_all}
+-- The chunk at hand is the next entry.
+use Rattle.std.proofs.Common.{◌≡◌, ℕ, ◌<◌, [], ap, ◌∙◌, add-one, arith}
+use Rattle.schedule.specs.File.{entry_bytes, entry_fine, entries_fine}
+use Rattle.schedule.proofs.Entries.{chunk_count, chunk_entry}
 use Rattle.schedule.proofs.later.entries_fine.Goals as goal
+
+pub loop-e-preserved : goal.loop-e-preserved
+loop-e-preserved c =
+    let b = c.args.b.now in
+    let n = c.args.c in
+    let i = c.loop-e.e-index in
+    let l : i < n = omega (arith, c.loop-e-test.true, c.as_chunks.ensures.front_len, chunk_count b n (omega arith)) in
+    let e : c.entry_fine-fine.result ≡ entry_fine (entry_bytes b i) =
+    c.entry_fine-fine.ensures ∙ ap entry_fine (chunk_entry b n (omega arith) c.as_chunks.result.0.now i [] c.as_chunks.ensures.front l) in
+    rw (add-one i, e, c.loop-e.invariant)
 
 pub returns : goal.returns
 returns c =
-    all_from_yields_List entry_fine _ _ c.all.result c.all.ensures.ran (YieldsList-from_slice _ c.iter.ensures.rest) (λ x b q k. search (rules, tests))
-    ∙ ap (list_all entry_fine) c.as_chunks.ensures.front
-    ∙ entries_all c.args.b.now c.args.c (omega arith)
+    let b = c.args.b.now in
+    let n = c.args.c in
+    let e : c.loop-e.e-index ≡ n =
+    omega (arith, c.loop-e-test.false, c.loop-e.auto.e-index-end, c.as_chunks.ensures.front_len, chunk_count b n (omega arith)) in
+    c.loop-e.invariant ∙ ap (entries_fine b) e

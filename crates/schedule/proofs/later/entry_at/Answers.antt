@@ -10,5 +10,5 @@ returns-in-Some c =
     let p = c.args.part.now in
     let l : c.args.j < length p / 12 = omega (arith, c.in-Some.ensures.lookup.3.0, c.as_chunks.ensures.front_len) in
     let at : c.in-Some.e.now ≡ take 12 (drop (12 * c.args.j) p) =
-        c.in-Some.ensures.lookup.1 ∙ chunk_read 12 p _ c.args.j _ c.as_chunks.ensures.front l in
+    c.in-Some.ensures.lookup.1 ∙ chunk_read 12 p _ c.args.j _ c.as_chunks.ensures.front l in
     (rw (le-leb (12 * c.args.j + 12) (length p) (omega arith)) (c.meaning.ensures.0 ∙ ap meant at), c.meaning.ensures.1)

@@ -12,10 +12,9 @@ use lib.Dec.{eqb, leb}
 use Rattle.numbers.specs.Numbers.{in_range, number_unless, first_found, range_number}
 use Rattle.numbers.proofs.Below.{all_at}
 use Rattle.numbers.proofs.First.{found_both, unless_fine, range_in}
-use Rattle.schedule.specs.Types.{Ask, Step, Load, Store, Check, Reading, Refused, Accepted}
+use Rattle.schedule.specs.Types.{Ask, Step, Load, Store, Check, FirstBlock, FirstRefused, Start, Reading, Refused, Accepted}
 use Rattle.schedule.specs.File.{number, check_of, check_fine, place_fine, block_number, start_n, start_s, start_v, later_blocks, first_clear, first_rest, first_number, place_with, kind, process, value, kind_fine, entry_clear, entry_fine, entry_by, no_entry, meant, count, entry_bytes, entries_fine, rest_clear, later_fine, later_number, length_fine, block_at, blocks_after, entries_to, file_entries, found, found_in_first, in_turn, accepted_as, reading}
-use Rattle.schedule.specs.Direct.{is_accepted}
-use Rattle.schedule.specs.Direct.{used_part, accepted_part, entry_at}
+use Rattle.schedule.specs.Direct.{is_accepted, first_refused, first_of, used_part, accepted_part, entry_at}
 use Rattle.schedule.proofs.Laws.{part_length}
 use Rattle.schedule.proofs.Entries.{block_entries_lem, block_entry, entry_stands, entry_bytes_lem, part_bytes, used_is, used_entry}
 
@@ -26,6 +25,21 @@ block_fine b k rest h =
     let one = found_both (number_unless (check_fine b) 2) (first_found place rest) h in
     let two = found_both place rest one.1 in
     (unless_fine (check_fine b) 2 (omega arith) one.0, (unless_fine (place_fine b k) 3 (omega arith) two.0, two.1))
+
+-- a block whose check and place are right is refused as its rest is, and one where they aren't by them
+pub frame_right : (b : List ℕ) (k rest : ℕ) → block_number b k 0 ≡ 0 → block_number b k rest ≡ rest
+frame_right b k rest h =
+    let fine = block_fine b k 0 h in
+    rw (fine.0, fine.1.0)
+
+pub frame_wrong : (b : List ℕ) (k rest : ℕ) → (block_number b k 0 ≡ 0 → ⊥) → block_number b k rest ≡ block_number b k 0
+frame_wrong b k rest = go (check_fine b) (place_fine b k)
+  where
+    go : (t u : Bool) → (first_found (number_unless t 2) (first_found (number_unless u 3) 0) ≡ 0 → ⊥)
+        → first_found (number_unless t 2) (first_found (number_unless u 3) rest) ≡ first_found (number_unless t 2) (first_found (number_unless u 3) 0)
+    go true true h = absurd (h refl)
+    go true false h = refl
+    go false u h = refl
 
 -- an entry of a kind that there is asks something of the process that its byte names
 pub meant_process : (e : List ℕ) → kind_fine e ≡ true → (meant e).process.0 ≡ process e
@@ -89,6 +103,29 @@ length_blocks n h =
     let low : 512 ≤ n = leb-true 512 n ends.0 in
     let high : n ≤ 65536 = leb-true n 65536 ends.1 in
     (omega arith, omega arith)
+
+-- what a file of a fine length says, by what its block 0 says
+abbrev pub then_later : List ℕ → FirstBlock → Reading
+then_later f (FirstRefused n place) = Refused n 0 place
+then_later f (Start n s v) = in_turn f 1 (blocks_after f) (Accepted n s v (length (file_entries f)))
+
+pub reading_by_first : (f : List ℕ) → length_fine (length f) ≡ true → then_later f (first_of (block_at f 0) (blocks_after f)) ≡ reading f
+unfolding first_of reading
+reading_by_first f fine =
+    let whole : length (block_at f 0) ≡ 512 = part_length f 0 512 (omega (arith, length_blocks (length f) fine)) in
+    rw (fine, whole) (go (eqb (first_number (block_at f 0) (blocks_after f)) 0))
+  where
+    b : List ℕ
+    b = block_at f 0
+
+    number : ℕ
+    number = first_number b (blocks_after f)
+
+    go : (t : Bool)
+        → then_later f (cond t (Start (start_n b) (start_s b) (start_v b)) (first_refused number b))
+        ≡ cond t (in_turn f 1 (blocks_after f) (accepted_as f)) (Refused number 0 (place_with number b))
+    go true = refl
+    go false = refl
 
 -- a number that was found ends the reading
 found_accepted : (n k place : ℕ) (rest : Reading) → is_accepted (found n k place rest) ≡ true → (n ≡ 0) × (is_accepted rest ≡ true)
