@@ -3,6 +3,7 @@ pub mod Soundness
 pub mod Writers
 pub mod Untouched
 pub mod SoundKept
+pub mod Starts
 pub mod RunLaws
 pub mod PartsOfRun
 pub mod Refusals

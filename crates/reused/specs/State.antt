@@ -1,6 +1,7 @@
 -- Document 02, P9: the state, what is unsound, and how everything starts.
 use Rattle.std.specs.Prelude.{ℕ, Bool, true, false, ◌&&◌, cond, ◌∷◌, eqb, ltb, get_or, replicate}
 use Rattle.numbers.specs.Numbers.{in_range_n, all_below}
+use Rattle.numbers.specs.Refusals.{number_in}
 use Rattle.reused.specs.Types.{Point, Triple, Option, None, Some, Place, Idle, Load1, Load2, Load3, Store1, Store2, Check1, Own, State, Started, Announced}
 use Rattle.reused.specs.Circle.{interval_of, in_range_m, sizes_number}
 
@@ -90,6 +91,15 @@ first_state n m =
 abbrev pub zero_state : State
 zero_state = record { n = 0; m = 0; x = first_triple; rows = replicate 16 no_row }
 
-unfoldable pub start_of : ℕ → ℕ → Started
+-- a start's state, and 0 or the number that turns it away
+pub record StartGiven : Type 0 where
+  pub state : State
+  pub number : ℕ
+
+unfoldable pub start_of : ℕ → ℕ → StartGiven
 start_of n m =
     cond (eqb (sizes_number n m) 0) (record { state = first_state n m; number = 0 }) (record { state = zero_state; number = sizes_number n m })
+
+-- what the code's start says, in the documents' numbers
+abbrev pub started_as : Started → StartGiven
+started_as r = record { state = r.state; number = number_in r.start }

@@ -11,6 +11,7 @@ pub use Rattle.requests.specs.declared.Kind.TheVariants.{Ask, Step}
 pub use Rattle.reused.specs.declared.Outcome.{Outcome}
 pub use Rattle.reused.specs.declared.Outcome.TheVariants.{Taken, GoesOn, Value, Done, NotDone, Yes, No, NoProcess, CallOpen, NoCall, Unsound}
 pub use Rattle.reused.specs.declared.Own.{Own}
+pub use Rattle.reused.specs.declared.Parts.{Parts}
 pub use Rattle.reused.specs.declared.Place.{Place}
 pub use Rattle.reused.specs.declared.Place.TheVariants.{Idle, Load1, Load2, Load3, Store1, Store2, Check1}
 pub use Rattle.reused.specs.declared.Point.{Point}

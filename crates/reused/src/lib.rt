@@ -8,13 +8,13 @@ mod choice;
 mod circle;
 pub mod direct;
 pub mod opening;
-pub mod parts;
+pub mod play;
 pub mod sound;
 mod step;
 pub mod tell;
 mod turn;
 
-use numbers::Process;
+use numbers::{Process, Refusal};
 
 // A number of the circle, from 0 and below M: a tag, or the start of an interval of tags. Never taken for a process.
 #[derive(Clone, Copy, PartialEq, Eq)]
@@ -100,6 +100,14 @@ pub type Kind = requests::Kind<bool>;
 
 pub type Entry = requests::Entry<bool>;
 
+// What an entry of a process is given: X, the process's row, and the place of A at its search place.
+#[derive(Clone, Copy)]
+pub struct Parts {
+    pub x: Triple,
+    pub own: Own,
+    pub looked: Option<Announced>,
+}
+
 // What a request leaves of a process's row.
 #[derive(Clone, Copy)]
 pub struct Requested {
@@ -121,11 +129,11 @@ pub struct Answer {
     pub outcome: Outcome,
 }
 
-// A start's state, and 0 or the number that turned it away.
+// What a start gives, and whether it was taken or turned away because N or M is out of range.
 #[derive(Clone, Copy)]
 pub struct Started {
     pub state: State,
-    pub number: usize,
+    pub start: Result<(), Refusal>,
 }
 
 // An outcome as it is printed: its number, and the load's answer if it has one.

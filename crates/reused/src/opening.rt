@@ -1,21 +1,24 @@
 // The start of a machine.
 ghost use Rattle.std.specs.Prelude.{◌≡◌, ◌≤◌};
+ghost use Rattle.numbers.specs.Refusals.{number_in};
 ghost use Rattle.reused.specs.Circle.{sizes_number};
-ghost use Rattle.reused.specs.State.{first_row, first_triple, first_state, zero_state, start_of};
+ghost use Rattle.reused.specs.State.{first_row, first_triple, first_state, zero_state, start_of, started_as};
 
 use crate::circle::{interval_of, m_in_range};
 use crate::{Own, Place, Point, Started, State, Triple};
-use numbers::{Process, n_in_range, number_unless};
+use numbers::{Process, Refusal, n_in_range};
 
-// The number that refuses N and M, or 0: 16 for N, then 24 for M.
-pub fn sizes_number(n: usize, m: u64) -> usize
-    ensures { result ≡ sizes_number n m }
+// What refuses N and M, N first.
+pub fn check_sizes(n: usize, m: u64) -> Result<(), Refusal>
+    ensures { number_in result ≡ sizes_number n m }
 {
-    if n_in_range(n) {
-        number_unless(m_in_range(n, m), 24)
-    } else {
-        16
+    if !n_in_range(n) {
+        return Err(Refusal::Processes);
     }
+    if !m_in_range(n, m) {
+        return Err(Refusal::CircleSize);
+    }
+    Ok(())
 }
 
 fn first_row(tag: u64, start: u64) -> Own
@@ -42,41 +45,43 @@ fn first_triple() -> Triple
     }
 }
 
-fn first_state(n: usize, m: u64) -> State
-    requires { n ≤ 16 }
-    ensures { result ≡ first_state n m }
-{
-    let d = interval_of(n);
-    let mut rows = [first_row(0, d); 16];
-    rows[0] = first_row(1, d);
-    State {
-        n,
-        m,
-        x: first_triple(),
-        rows,
+impl State {
+    fn first(n: usize, m: u64) -> State
+        requires { n ≤ 16 }
+        ensures { result ≡ first_state n m }
+    {
+        let d = interval_of(n);
+        let mut rows = [first_row(0, d); 16];
+        rows[0] = first_row(1, d);
+        State {
+            n,
+            m,
+            x: first_triple(),
+            rows,
+        }
     }
-}
 
-pub fn zero_state() -> State
-    ensures { result ≡ zero_state }
-{
-    State {
-        n: 0,
-        m: 0,
-        x: first_triple(),
-        rows: [first_row(0, 0); 16],
+    pub fn zero() -> State
+        ensures { result ≡ zero_state }
+    {
+        State {
+            n: 0,
+            m: 0,
+            x: first_triple(),
+            rows: [first_row(0, 0); 16],
+        }
     }
-}
 
-#[tactic(auto, unfolding(crate::specs::State::start_of))]
-pub fn start(n: usize, m: u64) -> Started
-    ensures { result ≡ start_of n m }
-{
-    let number = sizes_number(n, m);
-    let state = if number == 0 {
-        first_state(n, m)
-    } else {
-        zero_state()
-    };
-    Started { state, number }
+    #[tactic(auto, unfolding(crate::specs::State::start_of))]
+    pub fn start(n: usize, m: u64) -> Started
+        ensures { started_as result ≡ start_of n m }
+    {
+        let start = check_sizes(n, m);
+        let state = if start.is_ok() {
+            State::first(n, m)
+        } else {
+            State::zero()
+        };
+        Started { state, start }
+    }
 }

@@ -5,7 +5,7 @@ ghost use Rattle.reused.specs.State.{sound_triple, sound_kept, sound_named, soun
 ghost use Rattle.reused.specs.Parts.{sound_parts};
 
 use crate::circle::{Circle, m_in_range};
-use crate::{Announced, Own, Place, State, Triple};
+use crate::{Announced, Own, Parts, Place, State, Triple};
 use numbers::n_in_range;
 
 // N and M are in range.
@@ -72,25 +72,33 @@ impl Circle {
     }
 }
 
-// The parts that an entry is given.
-#[tactic(auto, unfolding(crate::specs::Parts::sound_parts))]
-pub fn parts_are_sound(n: usize, m: u64, x: Triple, own: Own, looked: Option<Announced>) -> bool
-    ensures { result ≡ sound_parts n m x own looked }
-{
-    if !sizes_are_sound(n, m) {
-        return false;
+impl Parts {
+    #[tactic(auto, unfolding(crate::specs::Parts::sound_parts))]
+    pub fn are_sound(self, n: usize, m: u64) -> bool
+        ensures { result ≡ sound_parts n m self.x self.own self.looked }
+    {
+        if !sizes_are_sound(n, m) {
+            return false;
+        }
+        let circle = Circle { n, m };
+        circle.triple_is_sound(self.x)
+            && circle.row_is_sound(self.own)
+            && circle.named_is_sound(self.looked)
     }
-    let circle = Circle { n, m };
-    circle.triple_is_sound(x) && circle.row_is_sound(own) && circle.named_is_sound(looked)
 }
 
-#[tactic(auto, unfolding(crate::specs::State::sound), using(crate::proofs::Soundness::rows_in_front))]
-pub fn is_sound(st: State) -> bool
-    ensures { result ≡ sound st }
-{
-    if !sizes_are_sound(st.n, st.m) {
-        return false;
+impl State {
+    #[tactic(auto, unfolding(crate::specs::State::sound), using(crate::proofs::Soundness::rows_in_front))]
+    pub fn is_sound(self) -> bool
+        ensures { result ≡ sound self }
+    {
+        if !sizes_are_sound(self.n, self.m) {
+            return false;
+        }
+        let circle = Circle {
+            n: self.n,
+            m: self.m,
+        };
+        circle.triple_is_sound(self.x) && circle.rows_are_sound(self.rows)
     }
-    let circle = Circle { n: st.n, m: st.m };
-    circle.triple_is_sound(st.x) && circle.rows_are_sound(st.rows)
 }

@@ -1,9 +1,9 @@
 // The steps of a load, a store and a check, and a request: what each leaves of X and of its process's row.
 ghost use Rattle.std.specs.Prelude.{◌≡◌};
-ghost use Rattle.reused.specs.Steps.{all_equal, at, goes_on, answered, as_was, load1, announced_of, load2, stored_of, load3, store1, store2, check1, step_of, own_steps, idle, first_place, request_of};
+ghost use Rattle.reused.specs.Steps.{all_equal, at, answered, as_was, load1, announced_of, load2, stored_of, load3, store1, store2, check1, step_of, own_steps, idle, first_place, request_of};
 
 use crate::turn::Turn;
-use crate::{Announced, Outcome, Own, Place, Request, Requested, Stepped, Stored, Triple};
+use crate::{Announced, Outcome, Own, Parts, Place, Request, Requested, Stepped, Stored, Triple};
 use numbers::Process;
 
 impl Place {
@@ -89,40 +89,34 @@ impl Own {
     }
 }
 
-// Whether X, old and check are equal.
-fn all_equal(x: Triple, own: Own) -> bool
-    ensures { result ≡ all_equal x own }
-{
-    own.old == own.check && own.old == Some(x)
-}
-
-fn go_on(x: Triple, own: Own) -> Stepped
-    ensures { result ≡ goes_on x own }
-{
-    Stepped {
-        x,
-        own,
-        outcome: Outcome::GoesOn,
+impl Parts {
+    // Whether X, old and check are equal.
+    fn all_equal(self) -> bool
+        ensures { result ≡ all_equal self.x self.own }
+    {
+        self.own.old == self.own.check && self.own.old == Some(self.x)
     }
-}
 
-fn answer(x: Triple, own: Own, outcome: Outcome) -> Stepped
-    ensures { result ≡ answered x own outcome }
-{
-    Stepped {
-        x,
-        own: own.at(Place::Idle),
-        outcome,
+    pub(crate) fn as_was(self, outcome: Outcome) -> Stepped
+        ensures { result ≡ as_was self.x self.own outcome }
+    {
+        Stepped {
+            x: self.x,
+            own: self.own,
+            outcome,
+        }
     }
-}
 
-pub(crate) fn turn_away(x: Triple, own: Own, outcome: Outcome) -> Stepped
-    ensures { result ≡ as_was x own outcome }
-{
-    Stepped { x, own, outcome }
-}
+    fn answer(self, outcome: Outcome) -> Stepped
+        ensures { result ≡ answered self.x self.own outcome }
+    {
+        Stepped {
+            x: self.x,
+            own: self.own.at(Place::Idle),
+            outcome,
+        }
+    }
 
-impl Turn {
     // Load: read X as old,
     fn load1(self) -> Stepped
         ensures { result ≡ load1 self.x self.own }
@@ -132,7 +126,7 @@ impl Turn {
             place: Place::Load2,
             ..self.own
         };
-        go_on(self.x, own)
+        Parts { own, ..self }.as_was(Outcome::GoesOn)
     }
 
     // announce old's process and tag,
@@ -144,7 +138,7 @@ impl Turn {
             place: Place::Load3,
             ..self.own
         };
-        go_on(self.x, own)
+        Parts { own, ..self }.as_was(Outcome::GoesOn)
     }
 
     // read X as check, and answer.
@@ -155,54 +149,60 @@ impl Turn {
             check: Some(self.x),
             ..self.own
         };
-        answer(self.x, own, Outcome::Value(self.own.stored()))
+        Parts { own, ..self }.answer(Outcome::Value(self.own.stored()))
     }
 
     // Store: X becomes [tag, p, bit] if X, old and check are equal,
-    fn store1(self, bit: bool) -> Stepped
-        ensures { result ≡ store1 self.process self.x self.own bit }
+    fn store1(self, p: Process, bit: bool) -> Stepped
+        ensures { result ≡ store1 p self.x self.own bit }
     {
-        if all_equal(self.x, self.own) {
-            let changed = Triple {
-                tag: self.own.tag,
-                process: self.process,
-                bit,
-            };
-            go_on(changed, self.own.at(Place::Store2))
+        if self.all_equal() {
+            Stepped {
+                x: Triple {
+                    tag: self.own.tag,
+                    process: p,
+                    bit,
+                },
+                own: self.own.at(Place::Store2),
+                outcome: Outcome::GoesOn,
+            }
         } else {
-            answer(self.x, self.own, Outcome::NotDone)
+            self.answer(Outcome::NotDone)
         }
-    }
-
-    // and then the next tag is chosen.
-    fn store2(self) -> Stepped
-        ensures { result ≡ store2 self.circle.n self.circle.m self.process self.x self.own self.looked }
-    {
-        answer(self.x, self.choose(), Outcome::Done)
     }
 
     fn check1(self) -> Stepped
         ensures { result ≡ check1 self.x self.own }
     {
-        if all_equal(self.x, self.own) {
-            answer(self.x, self.own, Outcome::Yes)
+        if self.all_equal() {
+            self.answer(Outcome::Yes)
         } else {
-            answer(self.x, self.own, Outcome::No)
+            self.answer(Outcome::No)
         }
+    }
+}
+
+impl Turn {
+    // and then the next tag is chosen.
+    fn store2(self) -> Stepped
+        ensures { result ≡ store2 self.circle.n self.circle.m self.process self.parts.x self.parts.own self.parts.looked }
+    {
+        let own = self.choose();
+        Parts { own, ..self.parts }.answer(Outcome::Done)
     }
 
     // The next step of the process.
     pub(crate) fn step(self) -> Stepped
-        ensures { result ≡ step_of self.circle.n self.circle.m self.process self.x self.own self.looked }
+        ensures { result ≡ step_of self.circle.n self.circle.m self.process self.parts.x self.parts.own self.parts.looked }
     {
-        match self.own.place {
-            Place::Idle => turn_away(self.x, self.own, Outcome::NoCall),
-            Place::Load1 => self.load1(),
-            Place::Load2 => self.load2(),
-            Place::Load3 => self.load3(),
-            Place::Store1(bit) => self.store1(bit),
+        match self.parts.own.place {
+            Place::Idle => self.parts.as_was(Outcome::NoCall),
+            Place::Load1 => self.parts.load1(),
+            Place::Load2 => self.parts.load2(),
+            Place::Load3 => self.parts.load3(),
+            Place::Store1(bit) => self.parts.store1(self.process, bit),
             Place::Store2 => self.store2(),
-            Place::Check1 => self.check1(),
+            Place::Check1 => self.parts.check1(),
         }
     }
 }

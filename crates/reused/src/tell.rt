@@ -5,34 +5,34 @@ ghost use Rattle.reused.specs.Steps.{says, told_of};
 use crate::{Outcome, Stored, Told};
 use numbers::Process;
 
-impl Told {
-    fn says(number: u8) -> Told
-        ensures { result ≡ says number }
-    {
-        let stored = Stored {
-            process: Process(0),
-            bit: false,
-        };
-        Told { number, stored }
-    }
+fn says(number: u8) -> Told
+    ensures { result ≡ says number }
+{
+    let stored = Stored {
+        process: Process(0),
+        bit: false,
+    };
+    Told { number, stored }
 }
 
-impl Outcome {
-    pub fn tell(self) -> Told
-        ensures { result ≡ told_of self }
+impl From<Outcome> for Told {
+    ghost from_gives = { λ outcome told. told ≡ told_of outcome };
+
+    fn from(outcome: Outcome) -> Told
+        ensures { result ≡ told_of outcome }
     {
-        match self {
-            Outcome::Taken => Told::says(0),
-            Outcome::GoesOn => Told::says(1),
+        match outcome {
+            Outcome::Taken => says(0),
+            Outcome::GoesOn => says(1),
             Outcome::Value(stored) => Told { number: 2, stored },
-            Outcome::Done => Told::says(3),
-            Outcome::NotDone => Told::says(4),
-            Outcome::Yes => Told::says(5),
-            Outcome::No => Told::says(6),
-            Outcome::NoProcess => Told::says(11),
-            Outcome::CallOpen => Told::says(12),
-            Outcome::NoCall => Told::says(14),
-            Outcome::Unsound => Told::says(15),
+            Outcome::Done => says(3),
+            Outcome::NotDone => says(4),
+            Outcome::Yes => says(5),
+            Outcome::No => says(6),
+            Outcome::NoProcess => says(11),
+            Outcome::CallOpen => says(12),
+            Outcome::NoCall => says(14),
+            Outcome::Unsound => says(15),
         }
     }
 }

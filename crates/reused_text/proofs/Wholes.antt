@@ -14,12 +14,12 @@ use Rattle.text.specs.Lines.{newline}
 use Rattle.writer.specs.Form.{place_of}
 use Rattle.writer.specs.Parts.{entries_from}
 use Rattle.writer.proofs.Whole.{newline_there}
-use Rattle.reused.specs.State.{start_of}
+use Rattle.reused.specs.State.{StartGiven, start_of}
 use Rattle.reused.specs.Frame.{Ready}
 use Rattle.reused.specs.Run.{notes, change_count}
 use Rattle.reused.proofs.Soundness.{sizes_fine, sizes_of_lem}
 use Rattle.reused.proofs.RunLaws.{ready_start, notes_length}
-use Rattle.reused_text.specs.Types.{State, Started, Entry, Version, Note, Scanned}
+use Rattle.reused_text.specs.Types.{State, Entry, Version, Note, Scanned}
 use Rattle.reused_text.specs.Form.{head_fine, line_fine, text_n, text_m, text_entries, text_number}
 use Rattle.reused_text.specs.Parts.{bit_entries_from, within, scanned_of}
 use Rattle.reused_text.specs.Played.{in_log, text_notes, text_log, ran_not, ran_of, log_after, changes_from, records_from}
@@ -92,7 +92,7 @@ module _ (text : List ℕ) (z : text_number text ≡ 0) where
   unfolding start_of
   ready = rw (number_parts text z).1 (ready_start (text_n text) (text_m text) (number_parts text z).1)
 
-  pub start_ready : (started : Started) → started ≡ start_of (text_n text) (text_m text) → Ready started.state
+  pub start_ready : (started : StartGiven) → started ≡ start_of (text_n text) (text_m text) → Ready started.state
   start_ready started begun = rw begun ready
 
   pub text_log_lem : laid (log_of (change_count (notes (start_of (text_n text) (text_m text)).state (text_entries text))) (text_n text) (map in_log (notes (start_of (text_n text) (text_m text)).state (text_entries text))))
@@ -125,7 +125,7 @@ module _ (text : List ℕ) (z : text_number text ≡ 0) (told : Scanned) (w : to
   pub told_entries : told.entries ≡ length (text_entries text)
   told_entries = rw w
 
-  module _ (started : Started) (begun : started ≡ start_of told.n told.m) (log : List ℕ) (room : log_length told.entries ≤ length log)
+  module _ (started : StartGiven) (begun : started ≡ start_of told.n told.m) (log : List ℕ) (room : log_length told.entries ≤ length log)
       (first : List ℕ) (lays : first ≡ laid (head_of told.entries 0 told.n) log) where
     entries_long : told.entries ≡ length (bit_entries_from text told.from)
     entries_long = rw (w, entries_are text z)

@@ -16,7 +16,6 @@ pub use Rattle.reused.specs.declared.Place.TheVariants.{Idle, Load1, Load2, Load
 pub use Rattle.reused.specs.Types.{Request}
 pub use Rattle.requests.specs.declared.Request.TheVariants.{Load, Store, Check}
 pub use Rattle.reused.specs.declared.Requested.{Requested}
-pub use Rattle.reused.specs.declared.Started.{Started}
 pub use Rattle.reused.specs.declared.State.{State}
 pub use Rattle.reused.specs.declared.Stepped.{Stepped}
 pub use Rattle.reused.specs.declared.Triple.{Triple}

@@ -7,8 +7,8 @@ ghost use Rattle.reused_text.specs.Played.{bit_number, seat_of, record_from};
 use crate::Next;
 use crate::form::read_bit_line;
 use numbers::{Process, Version};
-use reused::parts::{steps_by, x_changed};
-use reused::{Kind, Outcome, Place, Triple};
+use reused::play::{steps_by, x_changed};
+use reused::{Kind, Outcome, Place, Told, Triple};
 use run_log::Note;
 use writer::find::place_of;
 
@@ -47,7 +47,7 @@ pub(crate) fn note_of(process: u8, kind: Kind, place: Place, outcome: Outcome) -
     requires { (told_of outcome).stored.process.0 < 256 }
     ensures { result ≡ record_from process kind place outcome }
 {
-    let told = outcome.tell();
+    let told = Told::from(outcome);
     let steps = steps_by(place, kind, outcome);
     let number = told.number;
     let stored = told.stored;

@@ -6,8 +6,7 @@ ghost use Rattle.reused_text.specs.Played.{changes_from, records_from};
 
 use crate::entry::{count, next_entry, note_of, seat_of};
 use numbers::Version;
-use reused::State;
-use reused::parts::play_parts;
+use reused::{Parts, State};
 use run_log::write::write_record;
 
 // Plays the entries that the lines from a place on ask for, and writes their records into the front of the rest of the log.
@@ -41,7 +40,8 @@ pub(crate) fn play_lines(
         let k = search.0;
         let other = st.rows[k];
         let looked = other.named;
-        let r = play_parts(n, m, p, x, own, looked, kind);
+        let parts = Parts { x, own, looked };
+        let r = parts.play(n, m, p, kind);
         let now = r.x;
         let left = r.own;
         let outcome = r.outcome;

@@ -6,7 +6,7 @@ ghost use Rattle.reused_text.specs.Parts.{over_lines, passed_over, judged, scann
 use crate::form::{read_bit_line, read_sizes};
 use crate::{Scanned, Sizes};
 use numbers::{first_found, number_unless};
-use reused::opening::sizes_number;
+use reused::opening::check_sizes;
 use writer::Lines;
 use writer::find::place_of;
 
@@ -64,7 +64,10 @@ fn judge(sizes: Sizes, from: usize, entries: usize) -> Scanned
 {
     let n = sizes.n;
     let m = sizes.m;
-    let of_sizes = sizes_number(n, m);
+    let of_sizes = match check_sizes(n, m) {
+        Ok(()) => 0,
+        Err(refusal) => refusal.number() as usize,
+    };
     let few = entries <= 4294967295;
     let of_entries = number_unless(few, 26);
     let number = first_found(of_sizes, of_entries);

@@ -9,7 +9,7 @@ use crate::play::play_lines;
 use crate::scan::scan;
 use crate::{Ran, Scanned};
 use numbers::Version;
-use reused::opening::start;
+use reused::State;
 use run_log::write::lay_head;
 
 fn turn_away(number: usize, line: usize) -> Ran
@@ -32,7 +32,7 @@ fn run_entries(text: &[u8], log: &mut [u8], told: Scanned)
     let m = told.m;
     let from = told.from;
     let entries = told.entries;
-    let started = start(n, m);
+    let started = State::start(n, m);
     let state = started.state;
     let few = n as u8;
     let count = entries as u32;

@@ -21,7 +21,7 @@ pub bounds-st-i-in-loop-j : goal.bounds-st-i-in-loop-j
 bounds-st-i-in-loop-j c = seat_there c.loop-j.invariant c.next_entry-next.result.entry _ c.seat_of-seat.ensures
 
 pub note_of-note-requires : goal.note_of-note-requires
-note_of-note-requires c = answer_small c.loop-j.invariant c.next_entry-next.result.entry _ c.seat_of-seat.ensures _ c.play_parts-r.ensures
+note_of-note-requires c = answer_small c.loop-j.invariant c.next_entry-next.result.entry _ c.seat_of-seat.ensures _ c.play-r.ensures
 
 pub count-changes-requires : goal.count-changes-requires
 count-changes-requires c = count_low c.loop-j.invariant c.loop-j-test.true
@@ -31,7 +31,7 @@ loop-j-preserved c =
     turn_next c.loop-j.invariant c.loop-j-test.true
     _ _ c.next_entry-next.ensures.0 c.next_entry-next.ensures.1
     _ c.seat_of-seat.ensures
-    _ c.play_parts-r.ensures
+    _ c.play-r.ensures
     _ c.note_of-note.ensures
     _ c.count-changes.ensures
     _ c.write_record.ensures

@@ -6,4 +6,4 @@ use Rattle.reused.proofs.turn.Turn.look_on.Goals as goal
 pub ahead-tag-requires : goal.ahead-tag-requires
 ahead-tag-requires c =
     let t = c.args.self in
-    ((row_of _ _ t.own t.own_sound).tag, omega (arith, circle_some (sizes_of_lem _ _ t.circle.in_range)))
+    ((row_of _ _ t.parts.own t.own_sound).tag, omega (arith, circle_some (sizes_of_lem _ _ t.circle.in_range)))
