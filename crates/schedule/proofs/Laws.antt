@@ -1,8 +1,8 @@
 -- Laws of the definitions, for the proofs beside this file and for the floors above.
 -- Assumes nothing.
-use mathlib.Core.Path.{◌≡◌, refl, ap, ◌∙◌}
+use mathlib.Core.Path.{◌≡◌, refl, ◌∙◌}
 use mathlib.Core.Bool.{◌&&◌}
-use mathlib.Core.List.{List, ◌∷◌}
+use mathlib.Core.List.{List}
 use Prim.Native.Nat.{ℕ, zero, suc, ◌+◌, ◌-◌, ◌*◌, ◌/◌, ◌≤◌, ◌<◌}
 use native.Mathlib.Nat.{zero-add, add-zero, add-suc, mul-zero, mul-suc, mul-le-mul}
 use native.Mathlib.Decide.{dec_lt}

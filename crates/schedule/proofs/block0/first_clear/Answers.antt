@@ -1,4 +1,4 @@
-use Rattle.std.proofs.Common.{◌≡◌, arith}
+use Rattle.std.proofs.Common.{arith}
 use Rattle.schedule.proofs.Laws.{zeros_part}
 use Rattle.schedule.proofs.block0.first_clear.Goals as goal
 

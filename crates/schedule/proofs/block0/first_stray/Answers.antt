@@ -2,7 +2,6 @@
 use Rattle.std.proofs.Common.{◌≡◌, ℕ, ◌+◌, ◌<◌, List, length, take, drop, get_or, sym, ◌∙◌, arith, rules, tests, get_or-take, get_or-drop}
 use Rattle.std.proofs.lemmas.Iterator.{IsFirst-from_position, YieldsList-from_slice}
 use Rattle.std.proofs.option.Match.{if_some, if_none}
-use Rattle.std.proofs.Common.{ne_eqb}
 use Rattle.schedule.proofs.Laws.{part_length, stray_first, stray_none}
 use Rattle.schedule.proofs.block0.first_stray.Goals as goal
 

@@ -1,5 +1,5 @@
 -- What is left at the end is shorter than a block, so that taking 512 bytes of it takes all.
-use Rattle.std.proofs.Common.{◌≡◌, ℕ, ◌*◌, ◌-◌, ◌/◌, ◌<◌, length, drop, sym, ◌∙◌, arith, length-drop}
+use Rattle.std.proofs.Common.{◌≡◌, ◌*◌, ◌/◌, ◌<◌, length, drop, sym, ◌∙◌, arith, length-drop}
 use Rattle.std.proofs.lemmas.List.{take_all}
 use Rattle.schedule.proofs.Laws.{chunk_read}
 use Rattle.schedule.proofs.file.block_of.Goals as goal

@@ -1,8 +1,8 @@
-use Rattle.std.proofs.Common.{◌≡◌, ℕ, List, [], ◌+◌, ◌-◌, ◌*◌, ◌/◌, ◌≤◌, ◌<◌, length, take, drop, get_or, true, refl, sym, ap, ◌∙◌, arith}
+use Rattle.std.proofs.Common.{◌≡◌, ℕ, List, [], ◌+◌, ◌-◌, ◌/◌, ◌<◌, length, take, drop, get_or, refl, sym, ap, ◌∙◌, arith}
 use Rattle.std.specs.Simd.{first_chunks}
 use Rattle.numbers.specs.Refusals.{refusal_number}
 use Rattle.numbers.proofs.Refusals.{refused}
-use Rattle.schedule.specs.File.{later_number, count, length_fine, block_at, blocks_after, entries_to, file_entries, in_turn}
+use Rattle.schedule.specs.File.{later_number, count, block_at, blocks_after, entries_to, file_entries, in_turn}
 use Rattle.schedule.specs.Told.{accepted_from}
 use Rattle.schedule.proofs.Laws.{chunk_behind, behind_length}
 use Rattle.schedule.proofs.Entries.{entries_more}

@@ -1,5 +1,5 @@
 -- The entries counted are those of the blocks passed, and what the definition says from block 1 on it still says from the next block on.
-use Rattle.std.proofs.Common.{List, ℕ, ◌≡◌, ◌+◌, ◌-◌, ◌*◌, ◌≤◌, length}
+use Rattle.std.proofs.Common.{◌≡◌, ◌+◌, ◌-◌, ◌*◌, ◌≤◌, length}
 use Rattle.schedule.specs.File.{blocks_after, entries_to, file_entries, in_turn}
 use Rattle.schedule.specs.Told.{accepted_from}
 use Rattle.schedule.proofs.file.read_later.Given as goal

@@ -1,5 +1,5 @@
 -- The chunk at hand is the next entry.
-use Rattle.std.proofs.Common.{◌≡◌, ℕ, ◌<◌, [], ap, ◌∙◌, add-one, arith}
+use Rattle.std.proofs.Common.{◌≡◌, ◌<◌, [], ap, ◌∙◌, add-one, arith}
 use Rattle.schedule.specs.File.{entry_bytes, entry_fine, entries_fine}
 use Rattle.schedule.proofs.Entries.{chunk_count, chunk_entry}
 use Rattle.schedule.proofs.later.entries_fine.Goals as goal

@@ -1,5 +1,4 @@
 -- A number that is read is zero where its bytes are.
-use Rattle.std.proofs.Common.{◌≡◌}
 use Rattle.schedule.proofs.Laws.{number_zero}
 use Rattle.schedule.proofs.later.entry_clear.Goals as goal
 

@@ -1,4 +1,4 @@
-use Rattle.std.proofs.Common.{◌≡◌, ◌+◌, ◌-◌, ◌*◌, arith}
+use Rattle.std.proofs.Common.{◌+◌, ◌-◌, ◌*◌, arith}
 use Rattle.schedule.proofs.Laws.{zeros_part}
 use Rattle.schedule.proofs.later.rest_clear.Goals as goal
 
