@@ -16,8 +16,7 @@ fn refusal(number: usize, block: usize, place: usize) -> u64
     requires { (number ≤ 27) × (block ≤ 127) × (place ≤ 509) }
     ensures { (result ≡ c_refusal number block place) × (result < 4294967296) }
 {
-    let all = number + 256 * block + 65536 * place;
-    all as u64
+    (number + 256 * block + 65536 * place) as u64
 }
 
 // Plays a file: 0, or what a refused file gives.
@@ -25,20 +24,14 @@ pub fn reefcapstan_run(file: &[u8], log: &mut [u8]) -> u32
     ensures { (result ≡ c_number file.now log.old) × (log.new ≡ log_after file.now log.old) }
 {
     let ran = run(file, log);
-    let number = ran.number;
-    let block = ran.block;
-    let place = ran.place;
-    refusal(number, block, place) as u32
+    refusal(ran.number, ran.block, ran.place) as u32
 }
 
 // A line's number in the 56 bits that are left for it.
 fn line_detail(line: usize) -> u64
     ensures { result ≡ line_detail line }
 {
-    if line <= 72057594037927935 {
-        return line as u64;
-    }
-    72057594037927935
+    (line as u64).min(72057594037927935)
 }
 
 // What is told where the number is 0, or where it is not.
