@@ -5,7 +5,7 @@ ghost use Rattle.text.specs.Lines.{field, stored_at, stored_end};
 
 use crate::put::{put_byte, put_number};
 
-// How many digits a number has.
+// How many digits a number has. The library counts no digits (no `ilog10`), so the loop stays.
 pub fn count_digits(n: u64) -> usize
     ensures { result ≡ length (decimal_of n) }
 {

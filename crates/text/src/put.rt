@@ -1,4 +1,5 @@
-// Pieces of a line. Each is stored from a place of the lent part on, and answers with the place behind it.
+// Pieces of a line. Each is stored from a place of the lent part on, and answers with the place behind it. The place stands beside the part,
+// as in the promise of `write_field`; a struct of both would be taken apart again at each piece.
 ghost use Rattle.std.specs.Prelude.{◌≡◌, [], ◌∷◌, ◌+◌, ◌≤◌, ◌<◌, length};
 ghost use Rattle.std.proofs.lemmas.List.Edits.{sets};
 ghost use Rattle.text.specs.Decimal.{decimal_of};
