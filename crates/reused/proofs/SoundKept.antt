@@ -12,7 +12,7 @@ use Rattle.reused.specs.Circle.{interval_of, sizes_number}
 use Rattle.reused.specs.Steps.{all_equal, at, announced_of, hits, passed, renewed, with_choice, chosen, step_at, idle, first_place, request_of}
 use Rattle.reused.specs.State.{sound_triple, sound_kept, sound_named, sound_load, row_at, no_row, first_row, first_state}
 use Rattle.reused.specs.Called.{parts_after, entered, called}
-use Rattle.reused.proofs.Tests.{and_both, either_way}
+use Rattle.reused.proofs.Tests.{either_way}
 use Rattle.reused.proofs.Soundness.{Sizes, SoundOwn, Sound, sizes_of_lem, sizes_fine, sizes, interval_least, circle_least, circle_some, ahead_below}
 use Rattle.reused.proofs.Writers.{row_by}
 use Rattle.reused.proofs.Untouched.{by_call, left}
@@ -79,7 +79,7 @@ module _ (n m : ℕ) (p : Process) (x : Triple) (own : Own) (looked : Option Ann
       }
   left_at (Store1 bit) h =
       either_way (Left n m) (all_equal x own)
-      (record { word = and_both _ _ (lt-ltb _ _ mine.tag) (lt-ltb _ _ below); own = stands Store2 refl })
+      (record { word = rw (lt-ltb _ _ mine.tag, lt-ltb _ _ below); own = stands Store2 refl })
       (record { word = word; own = stands Idle refl })
   left_at Store2 h = record { word = word; own = choice_sound }
   left_at Check1 h = record { word = word; own = stands Idle refl }
@@ -122,7 +122,7 @@ pub start_sound : (n m : ℕ) → sizes_number n m ≡ 0 → Sound (first_state 
 start_sound n m e =
     record {
       range = sizes_fine n m e;
-      word = and_both _ _ (lt-ltb 0 m (omega (arith, twelve))) (lt-ltb 0 n r.some);
+      word = rw (lt-ltb 0 m (omega (arith, twelve)), lt-ltb 0 n r.some);
       each = λ j l.
           first_or_later (SoundOwn n m) (first_row 1 (interval_of n)) (first_row 0 (interval_of n)) no_row
           (first 1 (omega (arith, twelve)))
