@@ -38,19 +38,13 @@ impl Circle {
     fn kept_is_sound(self, kept: Option<Triple>) -> bool
         ensures { result ≡ sound_kept self.n self.m kept }
     {
-        match kept {
-            Some(w) => self.triple_is_sound(w),
-            None => true,
-        }
+        kept.is_none_or(|w| self.triple_is_sound(w))
     }
 
     fn named_is_sound(self, named: Option<Announced>) -> bool
         ensures { result ≡ sound_named self.n self.m named }
     {
-        match named {
-            Some(a) => a.tag.0 < self.m && a.process.0 < self.n,
-            None => true,
-        }
+        named.is_none_or(|a| a.tag.0 < self.m && a.process.0 < self.n)
     }
 
     fn row_is_sound(self, own: Own) -> bool

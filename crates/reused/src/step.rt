@@ -59,16 +59,13 @@ impl Own {
     fn stored(self) -> Stored
         ensures { result ≡ stored_of self.old }
     {
-        match self.old {
-            Some(w) => Stored {
+        self.old.map_or(
+            Stored::NONE,
+            |w| Stored {
                 process: w.process,
                 bit: w.bit,
             },
-            None => Stored {
-                process: Process(0),
-                bit: false,
-            },
-        }
+        )
     }
 
     // The request of a call by the process whose row this is.

@@ -5,14 +5,21 @@ ghost use Rattle.reused.specs.Steps.{says, told_of};
 use crate::{Outcome, Stored, Told};
 use numbers::Process;
 
-fn says(number: u8) -> Told
-    ensures { result ≡ says number }
-{
-    let stored = Stored {
+impl Stored {
+    // What stands where no load is answered.
+    pub(crate) const NONE: Stored = Stored {
         process: Process(0),
         bit: false,
     };
-    Told { number, stored }
+}
+
+fn says(number: u8) -> Told
+    ensures { result ≡ says number }
+{
+    Told {
+        number,
+        stored: Stored::NONE,
+    }
 }
 
 impl From<Outcome> for Told {
