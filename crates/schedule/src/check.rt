@@ -21,20 +21,20 @@ fn weigh(b: &[u8]) -> u32
 
 // What `weigh` gives of 510 places, with both halves of them in one loop. A byte of the second half weighs 255 more than the one that stands
 // at its place in the first: in the loop it gets that one's weight, and 255 times the bytes of the second half are added at the end. So
-// each product fits 16 bits, and the compiler can make many at once. The weight is counted beside the place: made from it, it would be cut
-// down to 16 bits in each turn, which takes a quarter longer.
+// each product fits 16 bits, and the compiler can make many at once. The weight is counted from 1 beside the place: made from the place, it
+// would be cut down to 16 bits again in each turn, and reading would take a quarter longer.
 fn weigh_halves(b: &[u8; 510]) -> u32
     ensures { result ≡ weighed b.now 510 }
 {
     let mut sum = 0;
     let mut more = 0;
-    let mut weight: u16 = 0;
+    let mut weight: u16 = 1;
     for i in 0..255 {
-        weight += 1;
         let low = weight * u16::from(b[i]);
         let high = weight * u16::from(b[255 + i]);
         sum += u32::from(low) + u32::from(high);
         more += u32::from(b[255 + i]);
+        weight += 1;
     }
     sum + 255 * more
 }

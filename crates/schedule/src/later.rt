@@ -152,7 +152,7 @@ fn meaning(e: &[u8; 12]) -> Entry
 pub fn entry_at(part: &[u8], j: usize) -> Entry
     ensures { (result ≡ entry_at part.now j) × (result.process.0 < 256) }
 {
-    match part.as_chunks().0.get(j) {
+    match part.as_chunks::<12>().0.get(j) {
         Some(e) => meaning(e),
         None => no_entry(),
     }
@@ -174,7 +174,7 @@ fn no_fields() -> Fields
 pub fn fields_at(part: &[u8], j: usize) -> Fields
     ensures { result ≡ fields_at part.now j }
 {
-    match part.as_chunks().0.get(j) {
+    match part.as_chunks::<12>().0.get(j) {
         Some(e) => fields(e),
         None => no_fields(),
     }

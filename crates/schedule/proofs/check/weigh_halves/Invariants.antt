@@ -9,7 +9,7 @@ abbrev pub invariant-loop-i : goal.invariant-loop-i
 invariant-loop-i l = record {
   sum : l.sum ≡ weighed l.b l.i + weighed_from l.b 255 l.i;
   more : l.more ≡ added_from l.b 255 l.i;
-  weight : l.weight ≡ l.i;
+  weight : l.weight ≡ l.i + 1;
   sum_bound : l.sum ≤ 131070 * l.i;
   more_bound : l.more ≤ 255 * l.i;
 }
