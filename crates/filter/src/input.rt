@@ -43,3 +43,15 @@ pub fn read_whole<R: Read>(input: &mut R, buffer: &mut [u8]) -> Result<usize, Tr
         Err(Trouble::Reading)
     }
 }
+
+// As much of the input as the buffer has room for, at the front of the buffer, and how many bytes that is. One byte less than the buffer has
+// means that the input is whole.
+pub fn read_front<R: Read>(input: &mut R, buffer: &mut [u8]) -> Result<usize, Trouble>
+    ensures within { IfOk result (λ n. n ≤ length buffer.new) }
+    ensures front { IfOk result (λ n. IfSome (R.remaining input.old) (λ bytes. take n buffer.new ≡ take (length buffer.new) bytes)) }
+{
+    match read_whole(input, buffer) {
+        Err(Trouble::TooLong) => Ok(buffer.len()),
+        read => read,
+    }
+}

@@ -4,8 +4,10 @@
 
 mod input;
 mod output;
+mod room;
 mod trouble;
 
-pub use input::read_whole;
+pub use input::{read_front, read_whole};
 pub use output::{write_head, write_lines, write_log, write_refusal, write_text_refusal};
+pub use room::zeros;
 pub use trouble::{Program, Trouble, complain};

@@ -2,7 +2,7 @@
 // functions on byte slices (lister: the text, text: the line of a refusal); this program only moves bytes.
 #![tactic(auto)]
 
-use filter::{Program, Trouble, complain, read_whole, write_refusal};
+use filter::{Program, Trouble, complain, read_front, write_refusal, zeros};
 use lister::list_file;
 use std::io::{Read, Write};
 
@@ -14,18 +14,13 @@ const LIST: Program = Program {
 };
 
 // Bytes that are enough for the text of every file (proved: text_most).
-fn room() -> [u8; 234761] {
-    [0u8; 234761]
-}
+const TEXT_ROOM: usize = 234_761;
 
 // An input longer than the longest file fills the buffer, whose length no file has: it is refused by 1 like any other length.
 fn list(input: &mut impl Read, output: &mut impl Write) -> Result<(), Trouble> {
     let mut file = [0u8; 65537];
-    let mut text = room();
-    let n = match read_whole(input, &mut file) {
-        Err(Trouble::TooLong) => file.len(),
-        read => read?,
-    };
+    let mut text = zeros::<TEXT_ROOM>();
+    let n = read_front(input, &mut file)?;
     let listed = list_file(&file[..n], &mut text);
     if listed.number == 0 {
         output.write_all(&text[..listed.length])?;

@@ -3,7 +3,7 @@
 #![tactic(auto)]
 
 use bench::whole::run;
-use filter::{Program, Trouble, complain, read_whole, write_log, write_refusal};
+use filter::{Program, Trouble, complain, read_front, write_log, write_refusal};
 use std::io::{Read, Write};
 
 const PLAY: Program = Program {
@@ -17,10 +17,7 @@ const PLAY: Program = Program {
 fn play(input: &mut impl Read, output: &mut impl Write) -> Result<(), Trouble> {
     let mut file = [0u8; 65537];
     let mut log = [0u8; 64020];
-    let n = match read_whole(input, &mut file) {
-        Err(Trouble::TooLong) => file.len(),
-        read => read?,
-    };
+    let n = read_front(input, &mut file)?;
     let ran = run(&file[..n], &mut log);
     if ran.number == 0 {
         write_log(output, &log)?;

@@ -2,7 +2,7 @@
 // on byte slices (reused_text: the run, text: the lines); this program only moves bytes.
 #![tactic(auto)]
 
-use filter::{Program, Trouble, complain, read_whole, write_log, write_text_refusal};
+use filter::{Program, Trouble, complain, read_whole, write_log, write_text_refusal, zeros};
 use reused_text::play_text;
 use std::io::{Read, Write};
 
@@ -14,18 +14,14 @@ const REUSE: Program = Program {
 };
 
 // One byte more than the longest text that is taken.
-fn room() -> [u8; 1048577] {
-    [0u8; 1048577]
-}
+const TEXT_ROOM: usize = 1_048_577;
 
 // A log for 262,144 entries: a line has four bytes at the least, so no text that is taken has more.
-fn log_room() -> [u8; 3145740] {
-    [0u8; 3145740]
-}
+const LOG_ROOM: usize = 3_145_740;
 
 fn play(input: &mut impl Read, output: &mut impl Write) -> Result<(), Trouble> {
-    let mut text = room();
-    let mut log = log_room();
+    let mut text = zeros::<TEXT_ROOM>();
+    let mut log = zeros::<LOG_ROOM>();
     let n = read_whole(input, &mut text)?;
     let ran = play_text(&text[..n], &mut log);
     if ran.number == 0 {

@@ -3,7 +3,7 @@
 // refusal goes to standard error.
 #![tactic(auto)]
 
-use filter::{Program, Trouble, complain, read_whole, write_text_refusal};
+use filter::{Program, Trouble, complain, read_whole, write_text_refusal, zeros};
 use std::io::{Read, Write};
 use writer::write_text;
 
@@ -15,16 +15,14 @@ const WRITE: Program = Program {
 };
 
 // One byte more than the longest text that is taken.
-fn room() -> [u8; 1048577] {
-    [0u8; 1048577]
-}
+const TEXT_ROOM: usize = 1_048_577;
 
 fn write(
     input: &mut impl Read,
     output: &mut impl Write,
     errors: &mut impl Write,
 ) -> Result<(), Trouble> {
-    let mut text = room();
+    let mut text = zeros::<TEXT_ROOM>();
     let mut file = [0u8; 65536];
     let n = read_whole(input, &mut text)?;
     let written = write_text(&text[..n], &mut file);
