@@ -15,7 +15,7 @@ pub use Rattle.step.specs.declared.Requested.{Requested}
 pub use Rattle.step.specs.declared.Row.{Row}
 pub use Rattle.step.specs.declared.Stepped.{Stepped}
 pub use Rattle.step.specs.declared.Tag.{Tag}
-pub use Rattle.machine.specs.declared.Answer.{Answer}
+pub use Rattle.machine.specs.Types.{Answer}
 pub use Rattle.machine.specs.declared.State.{State}
 pub use Rattle.schedule.specs.Reading.{Accepted}
 pub use Rattle.run_log.specs.declared.Head.{Head}

@@ -1,4 +1,6 @@
 -- The types that the code declares, here and below, by their names.
+use Rattle.requests.specs.declared.Answer as answer
+use Rattle.requests.specs.declared.Started as started
 pub use Rattle.numbers.specs.declared.Process.{Process}
 pub use Rattle.numbers.specs.declared.Sequence.{Sequence}
 pub use Rattle.step.specs.Types.{Entry}
@@ -15,6 +17,11 @@ pub use Rattle.step.specs.declared.Requested.{Requested}
 pub use Rattle.step.specs.declared.Row.{Row}
 pub use Rattle.step.specs.declared.Stepped.{Stepped}
 pub use Rattle.step.specs.declared.Tag.{Tag}
-pub use Rattle.machine.specs.declared.Answer.{Answer}
-pub use Rattle.machine.specs.declared.Started.{Started}
 pub use Rattle.machine.specs.declared.State.{State}
+
+-- What an entry leaves, and what a start gives.
+abbrev pub Answer : Type 0
+Answer = answer.Answer State Outcome
+
+abbrev pub Started : Type 0
+Started = started.Started State

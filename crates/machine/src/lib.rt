@@ -20,15 +20,7 @@ pub struct State {
     pub records: [Record; 16],
 }
 
-#[derive(Clone, Copy)]
-pub struct Answer {
-    pub state: State,
-    pub outcome: Outcome,
-}
+pub type Answer = requests::Answer<State, Outcome>;
 
 // What a start gives, and whether it was taken or turned away because N or S is out of range.
-#[derive(Clone, Copy)]
-pub struct Started {
-    pub state: State,
-    pub start: Result<(), Refusal>,
-}
+pub type Started = requests::Started<State>;

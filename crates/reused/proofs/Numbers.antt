@@ -11,7 +11,7 @@ use Rattle.reused.specs.Numbers.{Numbers, numbers, no_steps, of_step, of_kind, n
 
 -- what is said of an outcome, by the place before the entry
 abbrev printed : Place → Kind → Outcome → Numbers
-printed place kind o = record { outcome = (told_of o).number; steps = steps_by place kind o; stored = (told_of o).stored }
+printed place kind o = record { outcome = (told_of o).number; steps = steps_by place kind o; stored = (told_of o).value }
 
 -- an entry that is not looked at further
 absent : (place : Place) (kind : Kind) → printed place kind NoProcess ≡ no_steps 11

@@ -36,7 +36,7 @@ note_of st e =
       outcome = (told_of a.outcome).number;
       process = e.process.0;
       steps = steps_by (row_at st e.process.0).place e.kind a.outcome;
-      stored = (told_of a.outcome).stored;
+      stored = (told_of a.outcome).value;
       changed = x_changed st a.state;
     }
 

@@ -152,12 +152,12 @@ request_of own request =
 -- "0 request taken; 1 step taken, call goes on; 2 LL answered; 3 SC done; 4 SC not done; 5 VL yes; 6 VL no. A refused entry's outcome is its
 -- number below"; and a load's answer, a process and a bit, 0 and 0 where there is none.
 abbrev pub says : ℕ → Told
-says number = record { number = number; stored = none_stored }
+says number = record { number = number; value = none_stored }
 
 abbrev pub told_of : Outcome → Told
 told_of Taken = says 0
 told_of GoesOn = says 1
-told_of (Value v) = record { number = 2; stored = v }
+told_of (Value v) = record { number = 2; value = v }
 told_of Done = says 3
 told_of NotDone = says 4
 told_of Yes = says 5

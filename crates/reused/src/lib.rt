@@ -123,22 +123,10 @@ pub struct Stepped {
     pub outcome: Outcome,
 }
 
-#[derive(Clone, Copy)]
-pub struct Answer {
-    pub state: State,
-    pub outcome: Outcome,
-}
+pub type Answer = requests::Answer<State, Outcome>;
 
-// What a start gives, and whether it was taken or turned away because N or M is out of range.
-#[derive(Clone, Copy)]
-pub struct Started {
-    pub state: State,
-    pub start: Result<(), Refusal>,
-}
+// A start's state, and whether it was taken or turned away because N or M is out of range.
+pub type Started = requests::Started<State>;
 
 // An outcome as it is printed: its number, and the load's answer if it has one.
-#[derive(Clone, Copy)]
-pub struct Told {
-    pub number: u8,
-    pub stored: Stored,
-}
+pub type Told = requests::Told<Stored>;

@@ -18,7 +18,7 @@ fn says(number: u8) -> Told
 {
     Told {
         number,
-        stored: Stored::NONE,
+        value: Stored::NONE,
     }
 }
 
@@ -31,7 +31,7 @@ impl From<Outcome> for Told {
         match outcome {
             Outcome::Taken => says(0),
             Outcome::GoesOn => says(1),
-            Outcome::Value(stored) => Told { number: 2, stored },
+            Outcome::Value(value) => Told { number: 2, value },
             Outcome::Done => says(3),
             Outcome::NotDone => says(4),
             Outcome::Yes => says(5),

@@ -49,7 +49,7 @@ note_with x p place kind r =
       outcome = (told_of r.outcome).number;
       process = p.0;
       steps = steps_by place kind r.outcome;
-      stored = (told_of r.outcome).stored;
+      stored = (told_of r.outcome).value;
       changed = not (same_triple x r.x);
     }
 
@@ -85,7 +85,7 @@ module _ {n : ℕ} {x : Triple} {own : ℕ → Own} {c : Calls Stored} (s : Sim 
   away_steps (Ask request) o e = refl
   away_steps Step o e = rw e
 
-  away_plain : (o : Outcome) → turned_away o ≡ true → (told_of o).stored ≡ none_stored
+  away_plain : (o : Outcome) → turned_away o ≡ true → (told_of o).value ≡ none_stored
   away_plain Taken e = refl
   away_plain GoesOn e = refl
   away_plain (Value v) e = absurd (false≢true e)
@@ -139,7 +139,7 @@ module _ {n : ℕ} {x : Triple} {own : ℕ → Own} {c : Calls Stored} (s : Sim 
     next_answers : (o' : Own) (o : Outcome) (a : Answer Stored) → came x p (own p.0).place Step (record { x = x; own = o'; outcome = o }) ≡ answers p.0 a
         → Sim n x (put p.0 o' own) (closed c p.0 a (is_done a)) → Known n (put p.0 (stage_of o'.place) (stages own)) (go_on 1 c (answers p.0 a))
         → c.opened p.0 ≡ true → steps_by (own p.0).place Step o ≡ (counted_answer rules (suc (c.steps p.0)) a).steps
-        → (told_of o).stored ≡ (counted_answer rules (suc (c.steps p.0)) a).value → MayAnswer (c.op p.0) a (suc (c.steps p.0))
+        → (told_of o).value ≡ (counted_answer rules (suc (c.steps p.0)) a).value → MayAnswer (c.op p.0) a (suc (c.steps p.0))
         → Next n x own c p Step (record { x = x; own = o'; outcome = o }) (put p.0 o' own)
     next_answers o' o a e sim known' here rank val may =
         record {

@@ -1,7 +1,7 @@
 -- The types that the code declares, here and below, by their names.
 pub use Rattle.numbers.specs.declared.Process.{Process}
 pub use Rattle.reused.specs.declared.Announced.{Announced}
-pub use Rattle.reused.specs.declared.Answer.{Answer}
+pub use Rattle.reused.specs.Types.{Answer}
 pub use Rattle.reused.specs.Types.{Entry}
 pub use Rattle.std.specs.Prelude.{Option, None, Some}
 pub use Rattle.reused.specs.Types.{Kind}

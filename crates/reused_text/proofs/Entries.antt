@@ -94,8 +94,8 @@ module _ (st : State) (e : Entry) (h : Ready st) where
             outcome = (told_of outcome).number;
             process = e.process.0;
             steps = steps;
-            mark = (told_of outcome).stored.process.0;
-            value = bit_number (told_of outcome).stored.bit;
+            mark = (told_of outcome).value.process.0;
+            value = bit_number (told_of outcome).value.bit;
           }
 
   pub change_counted : change_count (note_of st e ∷ []) ≡ cond (not (same_triple st.x left.x)) 1 0
@@ -109,7 +109,7 @@ module _ (n m : ℕ) (some : 1 ≤ n) where
   kept_below (Some w) e = ltb-true w.process.0 n ((and-eq-true_iff (sound_point m w.tag) (ltb w.process.0 n)).0 e).1
 
   module _ (p : Process) (x : Triple) (own : Own) (looked : Option Announced) (e : sound_kept n m own.old ≡ true) where
-    answer_below : (place : Place) → (told_of (step_at n m p x own looked place).outcome).stored.process.0 < n
+    answer_below : (place : Place) → (told_of (step_at n m p x own looked place).outcome).value.process.0 < n
     answer_below Idle = some
     answer_below Load1 = some
     answer_below Load2 = some
@@ -117,25 +117,25 @@ module _ (n m : ℕ) (some : 1 ≤ n) where
     answer_below (Store1 bit) = go (all_equal x own)
       where
         go : (t : Bool)
-            → (told_of (cond {A = Stepped} t (goes_on (record { tag = own.tag; process = p; bit = bit }) (at own Store2)) (answered x own NotDone)).outcome).stored.process.0 < n
+            → (told_of (cond {A = Stepped} t (goes_on (record { tag = own.tag; process = p; bit = bit }) (at own Store2)) (answered x own NotDone)).outcome).value.process.0 < n
         go true = some
         go false = some
     answer_below Store2 = some
     answer_below Check1 = go (all_equal x own)
       where
-        go : (t : Bool) → (told_of (cond t Yes No)).stored.process.0 < n
+        go : (t : Bool) → (told_of (cond t Yes No)).value.process.0 < n
         go true = some
         go false = some
 
-    asked_below : (kind : Kind) → (told_of (parts_after n m p x own looked kind).outcome).stored.process.0 < n
+    asked_below : (kind : Kind) → (told_of (parts_after n m p x own looked kind).outcome).value.process.0 < n
     asked_below Step = answer_below own.place
     asked_below (Ask request) = go (idle own.place)
       where
-        go : (t : Bool) → (told_of (cond {A = Requested} t (record { own = at own (first_place request); outcome = Taken }) (record { own = own; outcome = CallOpen })).outcome).stored.process.0 < n
+        go : (t : Bool) → (told_of (cond {A = Requested} t (record { own = at own (first_place request); outcome = Taken }) (record { own = own; outcome = CallOpen })).outcome).value.process.0 < n
         go true = some
         go false = some
 
-pub stored_small : (st : State) (e : Entry) → (h : Ready st) → (told_of (left st e h).outcome).stored.process.0 < 256
+pub stored_small : (st : State) (e : Entry) → (h : Ready st) → (told_of (left st e h).outcome).value.process.0 < 256
 unfolding played_parts
 stored_small st e h =
     rw (parts_sound st (seat st e) (sure h) (seat_below st e h)) (go (ltb e.process.0 st.n))
@@ -146,7 +146,7 @@ stored_small st e h =
     some : 1 ≤ st.n
     some = (sizes (sure h)).some
 
-    go : (t : Bool) → (told_of (cond {A = Stepped} t (parts_after st.n st.m e.process st.x own (looked_at st own) e.kind) (record { x = st.x; own = own; outcome = NoProcess })).outcome).stored.process.0 < 256
+    go : (t : Bool) → (told_of (cond {A = Stepped} t (parts_after st.n st.m e.process st.x own (looked_at st own) e.kind) (record { x = st.x; own = own; outcome = NoProcess })).outcome).value.process.0 < 256
     go true =
         let below = asked_below st.n st.m some e.process st.x own (looked_at st own) ((sure h).each (seat st e).0 (seat_below st e h)).old e.kind in
         omega (arith, below, (sizes (sure h)).few)

@@ -167,7 +167,7 @@ module _ {text : List ℕ} {from : ℕ} {rest₀ : List ℕ} {st₀ : State} {en
 
   pub answer_small : (e : Entry) (i : Process) → i ≡ seat_of n e.process
       → (r : Stepped) → r ≡ played_parts n m e.process st.x (row_at st i.0) (looked_at st (row_at st i.0)) e.kind
-      → (told_of r.outcome).stored.process.0 < 256
+      → (told_of r.outcome).value.process.0 < 256
   answer_small e i at r goes = rw (goes, at, ← size_now, ← round_now) (stored_small st e ready_now)
 
   pub count_low : j < end → changes.0 < 4294967295

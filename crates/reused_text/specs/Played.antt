@@ -65,8 +65,8 @@ record_from p kind place outcome =
       outcome = (told_of outcome).number;
       process = p;
       steps = steps_by place kind outcome;
-      mark = (told_of outcome).stored.process.0;
-      value = bit_number (told_of outcome).stored.bit;
+      mark = (told_of outcome).value.process.0;
+      value = bit_number (told_of outcome).value.bit;
     }
 
 -- and of entries played from a state: how often X changed, and their records at the front of the rest of the log

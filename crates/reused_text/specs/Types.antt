@@ -9,7 +9,7 @@ pub use Rattle.reused.specs.Types.{Kind}
 pub use Rattle.requests.specs.declared.Kind.TheVariants.{Ask, Step}
 pub use Rattle.reused.specs.declared.Outcome.{Outcome}
 pub use Rattle.reused.specs.declared.Outcome.TheVariants.{Taken, GoesOn, NotDone, Yes, No, NoProcess, CallOpen}
-pub use Rattle.reused.specs.declared.Answer.{Answer}
+pub use Rattle.reused.specs.Types.{Answer}
 pub use Rattle.reused.specs.declared.Own.{Own}
 pub use Rattle.reused.specs.declared.Place.{Place}
 pub use Rattle.reused.specs.declared.Place.TheVariants.{Idle, Load1, Load2, Load3, Store1, Store2, Check1}

@@ -44,13 +44,13 @@ fn bit_number(bit: bool) -> u64
 
 // The log's record of an entry whose process stood at `place` and that came to `outcome`.
 pub(crate) fn note_of(process: u8, kind: Kind, place: Place, outcome: Outcome) -> Note
-    requires { (told_of outcome).stored.process.0 < 256 }
+    requires { (told_of outcome).value.process.0 < 256 }
     ensures { result ≡ record_from process kind place outcome }
 {
     let told = Told::from(outcome);
     let steps = steps_by(place, kind, outcome);
     let number = told.number;
-    let stored = told.stored;
+    let stored = told.value;
     let whose = stored.process;
     let mark = whose.0 as u8;
     let value = bit_number(stored.bit);

@@ -1,4 +1,5 @@
 -- The types that the code declares, here and below, by their names.
+use Rattle.requests.specs.declared.Told as told
 use Rattle.std.specs.Prelude.{ℕ}
 use Rattle.requests.specs.declared.Entry as entry
 use Rattle.requests.specs.declared.Kind as kind
@@ -15,7 +16,6 @@ pub use Rattle.step.specs.declared.Requested.{Requested}
 pub use Rattle.step.specs.declared.Row.{Row}
 pub use Rattle.step.specs.declared.Stepped.{Stepped}
 pub use Rattle.step.specs.declared.Tag.{Tag}
-pub use Rattle.step.specs.declared.Told.{Told}
 pub use Rattle.requests.specs.declared.Kind.TheVariants.{Ask, Step}
 
 -- What is asked of the machine, whose word holds a number.
@@ -27,3 +27,7 @@ Kind = kind.Kind ℕ
 
 abbrev pub Entry : Type 0
 Entry = entry.Entry ℕ
+
+-- An outcome as the log writes it.
+abbrev pub Told : Type 0
+Told = told.Told ℕ

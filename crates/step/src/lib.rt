@@ -98,8 +98,4 @@ pub struct Stepped {
 }
 
 // An outcome as the log writes it: its number, and its value if it has one.
-#[derive(Clone, Copy)]
-pub struct Told {
-    pub number: u8,
-    pub value: u64,
-}
+pub type Told = requests::Told<u64>;
