@@ -2,8 +2,6 @@
 // file stdout beside it.
 #![tactic(auto)]
 
-ghost use Rattle.std.specs.Prelude.{◌≤◌, length};
-
 use bench::whole::run;
 use filter::{write_head, write_lines, write_refusal};
 use schedule::check_of;
@@ -86,16 +84,14 @@ const ORDER: [(&str, First); 7] = [
     ("no stray byte: ", First { ..FINE }),
 ];
 
-fn lay_first(file: &mut [u8], first: First)
-    requires { 512 ≤ length file.old }
-{
-    file[2] = first.n;
-    file[3] = first.third;
-    file[4] = first.s;
-    file[8] = 7;
-    file[16] = first.later;
-    file[18] = first.low;
-    file[509] = first.high;
+fn lay_first(block: &mut [u8; 512], first: First) {
+    block[2] = first.n;
+    block[3] = first.third;
+    block[4] = first.s;
+    block[8] = 7;
+    block[16] = first.later;
+    block[18] = first.low;
+    block[509] = first.high;
 }
 
 // "LL by 1, three steps of 1, SC 40 by 1, four steps of 1, VL by 0, one step of 0", each entry by its kind, process and value.
@@ -113,12 +109,10 @@ const FULL_RUN: [(u8, u8, u8); 11] = [
     (4, 0, 0),
 ];
 
-// Block 1 with these entries.
-fn lay_full_run(file: &mut [u8])
-    requires { 1024 ≤ length file.old }
-{
-    file[514] = 11;
-    let (entries, _) = file[516..1020].as_chunks_mut::<12>();
+// A later block with these entries.
+fn lay_full_run(block: &mut [u8; 512]) {
+    block[2] = 11;
+    let (entries, _) = block[4..508].as_chunks_mut::<12>();
     for (entry, (kind, process, value)) in entries.iter_mut().zip(FULL_RUN) {
         entry[0] = kind;
         entry[1] = process;
@@ -136,8 +130,7 @@ fn seal(block: &mut [u8; 512], k: usize) {
     block[511] = high;
 }
 
-fn seal_all(file: &mut [u8]) {
-    let (blocks, _) = file.as_chunks_mut::<512>();
+fn seal_all(blocks: &mut [[u8; 512]]) {
     for (k, block) in blocks.iter_mut().enumerate() {
         seal(block, k);
     }
@@ -173,27 +166,37 @@ fn try_order(output: &mut impl Write) -> io::Result<()> {
 
 // Files of blocks without entries, as many as there may be and one more.
 fn try_lengths(output: &mut impl Write) -> io::Result<()> {
-    let mut file = [0u8; 66048];
+    let mut blocks = [[0u8; 512]; 129];
     let mut log = [0u8; 12];
-    try_file(output, "length 0: ", &file[..0], &mut log)?;
-    lay_first(&mut file, First { later: 127, ..FINE });
-    seal_all(&mut file);
-    try_file(output, "length 65,536: ", &file[0..65536], &mut log)?;
-    try_file(output, "length 66,048: ", &file, &mut log)
+    try_file(output, "length 0: ", &[], &mut log)?;
+    lay_first(&mut blocks[0], First { later: 127, ..FINE });
+    seal_all(&mut blocks);
+    try_file(
+        output,
+        "length 65,536: ",
+        blocks[0..128].as_flattened(),
+        &mut log,
+    )?;
+    try_file(output, "length 66,048: ", blocks.as_flattened(), &mut log)
 }
 
 fn try_full_run(output: &mut impl Write) -> io::Result<()> {
-    let mut file = [0u8; 1024];
+    let mut blocks = [[0u8; 512]; 2];
     let mut log = [0u8; 144];
     let mut short = [0u8; 143];
-    lay_first(&mut file, First { later: 1, ..FINE });
-    lay_full_run(&mut file);
-    seal_all(&mut file);
-    try_file(output, "the full run: ", &file, &mut log)?;
+    lay_first(&mut blocks[0], First { later: 1, ..FINE });
+    lay_full_run(&mut blocks[1]);
+    seal_all(&mut blocks);
+    try_file(output, "the full run: ", blocks.as_flattened(), &mut log)?;
     write_lines(output, &log, 11)?;
-    try_file(output, "log of 143 bytes: ", &file, &mut short)?;
-    file[510] = 132;
-    try_file(output, "check 132: ", &file, &mut log)
+    try_file(
+        output,
+        "log of 143 bytes: ",
+        blocks.as_flattened(),
+        &mut short,
+    )?;
+    blocks[0][510] = 132;
+    try_file(output, "check 132: ", blocks.as_flattened(), &mut log)
 }
 
 fn try_all(output: &mut impl Write) -> io::Result<()> {

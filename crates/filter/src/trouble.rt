@@ -15,8 +15,8 @@ pub enum Trouble {
 impl From<io::Error> for Trouble {
     ghost from_gives = { λ _ trouble. trouble ≡ Writing };
 
-    fn from(_error: io::Error) -> Trouble {
-        Trouble::Writing
+    fn from(_error: io::Error) -> Self {
+        Self::Writing
     }
 }
 
