@@ -42,3 +42,12 @@ module _ {M : Type 1} {T : Ended} {c : Promise M T} {κs : Lfts T.signature.life
       → (fact k.𝓤 ((k.result ≡ r) × (x ≡ z))).holds k.resource
       → (fact l.𝓤 ((l.result ≡ r) × (y ≡ z))).holds l.resource → (k.result ≡ l.result) × (f x ≡ f y)
   same_both f p q = (same_result_too p q, ap f (told (coded_list coded_ℕ) (λ d e. d.1 ∙ sym e.1) p q))
+
+  pub same_told_both : {X : Type 0} (told : Res T.signature κs → X) → ((x y : Res T.signature κs) → told x ≡ told y → x ≡ y) → (f : List ℕ → Lasts T κs a)
+      → {r : X} {x y z : List ℕ}
+      → (fact k.𝓤 ((told k.result ≡ r) × (x ≡ z))).holds k.resource
+      → (fact l.𝓤 ((told l.result ≡ r) × (y ≡ z))).holds l.resource → (k.result ≡ l.result) × (f x ≡ f y)
+  same_told_both t one f p q = (
+    told (type_at T.signature.result κs).coded (λ d e. one k.result l.result (d.0 ∙ sym e.0)) p q,
+    ap f (told (coded_list coded_ℕ) (λ d e. d.1 ∙ sym e.1) p q),
+  )

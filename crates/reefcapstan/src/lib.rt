@@ -45,12 +45,10 @@ fn by_number(number: usize, done: u64, refused: u64) -> u64
 pub fn reefcapstan_write(text: &[u8], out: &mut [u8]) -> u64
     ensures { (result ≡ c_written text.now out.old) × (out.new ≡ written_in text.now out.old) }
 {
-    let written = write_text(text, out);
-    let number = written.number;
-    let length = written.length as u64;
-    let line = line_detail(written.line);
-    let detail = by_number(number, length, line);
-    number as u64 + 256 * detail
+    match write_text(text, out) {
+        Ok(length) => 256 * length as u64,
+        Err(e) => u64::from(e.refusal.number()) + 256 * line_detail(e.line),
+    }
 }
 
 // Writes the text of a file: 256 times the length of the text; else number, block and place as for a run (27 has neither).

@@ -25,11 +25,9 @@ fn write(
     let mut text = zeros::<TEXT_ROOM>();
     let mut file = [0u8; 65536];
     let n = read_whole(input, &mut text)?;
-    let written = write_text(&text[..n], &mut file);
-    if written.number == 0 {
-        output.write_all(&file[..written.length])?;
-    } else {
-        write_text_refusal(errors, written.number, written.line)?;
+    match write_text(&text[..n], &mut file) {
+        Ok(length) => output.write_all(&file[..length])?,
+        Err(e) => write_text_refusal(errors, usize::from(e.refusal.number()), e.line)?,
     }
     Ok(())
 }

@@ -8,30 +8,34 @@ use native.Mathlib.Decide.{dec_lt}
 use native.Mathlib.Omega.{arith}
 use borrow.Author.Tests.{le-leb, lt-leb, ne_eqb}
 use lib.Dec.{eqb, leb}
-use lib.ListN.{length}
+use lib.ListN.{length, drop}
+use Rattle.std.specs.Prelude.{Result, Ok, Err}
 use Rattle.numbers.specs.Numbers.{in_range_n, in_range_s, number_unless, first_found}
+use Rattle.numbers.specs.Refusals.{refusal_number}
+use Rattle.numbers.proofs.Refusals.{refused, same_refusal}
 use Rattle.run_log.specs.Log.{laid}
 use Rattle.run_log.proofs.Laws.{laid_short}
-use Rattle.writer.specs.Types.{Scanned, Written}
+use Rattle.writer.specs.Types.{TextRefusal, Scanned, Written}
 use Rattle.writer.specs.Form.{outside, text_n, text_s, text_v, text_entries, head_fine, line_fine}
 use Rattle.writer.specs.Made.{blocks_for, file_made}
-use Rattle.writer.specs.Parts.{entries_from, within, scanned_of}
-use Rattle.writer.specs.Writer.{text_number, text_file, turned, written_of, written_in}
+use Rattle.writer.specs.Parts.{InForm, entries_left, within, scanned_as, scanned_of}
+use Rattle.writer.specs.Writer.{text_number, text_file, turned, written_as, written_of, written_in}
 use Rattle.writer.proofs.MadeRead.{made_length}
-use Rattle.writer.proofs.Whole.{newline_there, scanned_number, scanned_refused, scanned_accepted}
+use Rattle.writer.proofs.Whole.{newline_there, further_fine, scanned_number, scanned_refused, scanned_accepted}
 use Rattle.writer.proofs.Within.{number_parts}
 
 -- what a scan says of an accepted text
 pub record Accepted (text : List ℕ) (told : Scanned) : Type 0 where
   pub fine : text_number text ≡ 0
   pub within : told.from ≤ length text
-  pub count : told.entries ≡ length (entries_from text told.from)
+  pub form : InForm (drop told.from text)
+  pub count : told.entries ≡ length (entries_left (drop told.from text))
   pub few : told.entries ≤ 5334
-  pub file : file_made told.n told.s told.v (entries_from text told.from) ≡ text_file text
+  pub file : file_made told.n told.s told.v (entries_left (drop told.from text)) ≡ text_file text
   pub size : length (text_file text) ≡ 512 + 512 * blocks_for told.entries
 
 pub accepted_scan : (text : List ℕ) (told : Scanned) → told ≡ scanned_of text → told.number ≡ 0 → Accepted text told
-unfolding entries_from
+unfolding entries_left InForm
 accepted_scan text told e h = rw (e ∙ scanned_accepted text fine) known
   where
     fine : text_number text ≡ 0
@@ -42,6 +46,7 @@ accepted_scan text told e h = rw (e ∙ scanned_accepted text fine) known
         record {
           fine = fine;
           within = omega (arith, newline_there head_fine line_fine text (number_parts text fine).0);
+          form = further_fine text (number_parts text fine).0;
           count = refl;
           few = (number_parts text fine).1.1;
           file = refl;
@@ -49,28 +54,28 @@ accepted_scan text told e h = rw (e ∙ scanned_accepted text fine) known
         }
 
 module _ (text out : List ℕ) where
-  pub written_refused : (told : Scanned) → told ≡ scanned_of text → (told.number ≡ 0 → ⊥) → {r : Written} → r ≡ turned told.number told.line
-      → (r ≡ written_of text out) × (out ≡ written_in text out)
+  pub written_refused : (e : TextRefusal) → scanned_as (Err e) ≡ scanned_of text
+      → (written_as (Err e) ≡ written_of text out) × (out ≡ written_in text out)
   unfolding written_of written_in
-  written_refused told e h {r} k =
-      let number : told.number ≡ text_number text = ap (λ (t : Scanned). t.number) e ∙ scanned_number text in
-      let refused : text_number text ≡ 0 → ⊥ = λ q. h (number ∙ q) in
-      let line : told.line ≡ outside text = ap (λ (t : Scanned). t.line) (e ∙ scanned_refused text refused) in
-      rw (ne_eqb (text_number text) 0 refused) (k ∙ rw (number, line), refl)
+  written_refused e h =
+      let number : refusal_number e.refusal ≡ text_number text = ap (λ (t : Scanned). t.number) h ∙ scanned_number text in
+      let not : text_number text ≡ 0 → ⊥ = λ q. omega (arith, q, number, refused e.refusal) in
+      let line : e.line ≡ outside text = ap (λ (t : Scanned). t.line) (h ∙ scanned_refused text not) in
+      rw (ne_eqb (text_number text) 0 not, ← number, ← line) (refl, refl)
 
-  pub written_short : (told : Scanned) → Accepted text told → length out < 512 + 512 * blocks_for told.entries → {r : Written} → r ≡ turned 27 0
-      → (r ≡ written_of text out) × (out ≡ written_in text out)
-  unfolding written_of written_in
-  written_short told known h {r} k =
-      let short : length out < length (text_file text) = omega (arith, known.size, h) in
-      rw (known.fine, lt-leb (length (text_file text)) (length out) short) (k, sym (laid_short (text_file text) out short))
+  module _ (told : Scanned) (known : Accepted text told) where
+    pub written_short : length out < 512 + 512 * blocks_for told.entries → (turned 27 0 ≡ written_of text out) × (out ≡ written_in text out)
+    unfolding written_of written_in
+    written_short h =
+        let short : length out < length (text_file text) = omega (arith, known.size, h) in
+        rw (known.fine, lt-leb (length (text_file text)) (length out) short) (refl, sym (laid_short (text_file text) out short))
 
-  pub written_whole : (told : Scanned) → Accepted text told → 512 + 512 * blocks_for told.entries ≤ length out → {after : List ℕ}
-      → after ≡ laid (file_made told.n told.s told.v (entries_from text told.from)) out
-      → (record { number = 0; line = 0; length = 512 + 512 * blocks_for told.entries } ≡ written_of text out) × (after ≡ written_in text out)
-  unfolding written_of written_in
-  written_whole told known h {after} k =
-      rw (known.fine, le-leb (length (text_file text)) (length out) (omega (arith, known.size, h)), known.size) (refl, k ∙ rw known.file)
+    pub written_whole : 512 + 512 * blocks_for told.entries ≤ length out → {after : List ℕ}
+        → after ≡ laid (file_made told.n told.s told.v (entries_left (drop told.from text))) out
+        → (record { number = 0; line = 0; length = 512 + 512 * blocks_for told.entries } ≡ written_of text out) × (after ≡ written_in text out)
+    unfolding written_of written_in
+    written_whole h {after} k =
+        rw (known.fine, le-leb (length (text_file text)) (length out) (omega (arith, known.size, h)), known.size) (refl, k ∙ rw known.file)
 
 -- the number and the length are small
 pub number_most : (text : List ℕ) → text_number text ≤ 26
@@ -103,3 +108,27 @@ written_low text out = go (dec_lt 0 (text_number text))
         let few = (number_parts text fine).1.1 in
         let size = made_length (text_n text) (text_s text) (text_v text) (text_entries text) in
         rw fine (room (omega (arith, size, few)) (leb (length (text_file text)) (length out)))
+
+-- a refusal with its line is both together
+same_fields : (d e : TextRefusal) → d.refusal ≡ e.refusal → d.line ≡ e.line → d ≡ e
+same_fields d e h k = λ i. record { refusal = h i; line = k i }
+
+-- no two answers tell the same
+pub same_written : (x y : Result ℕ TextRefusal) → written_as x ≡ written_as y → x ≡ y
+same_written (Ok m) (Ok n) h = ap (λ (k : ℕ). Ok k) (ap (λ (w : Written). w.length) h)
+same_written (Ok m) (Err e) h = absurd (omega (arith, ap (λ (w : Written). w.number) h, refused e.refusal))
+same_written (Err d) (Ok n) h = absurd (omega (arith, ap (λ (w : Written). w.number) h, refused d.refusal))
+same_written (Err d) (Err e) h =
+    let refusal = same_refusal d.refusal e.refusal (ap (λ (w : Written). w.number) h) in
+    let line : d.line ≡ e.line = ap (λ (w : Written). w.line) h in
+    ap (λ (e : TextRefusal). Err e) (same_fields d e refusal line)
+
+-- a file that was written fits the lent output
+written_fits : (text out : List ℕ) → (written_of text out).length ≤ length out
+unfolding written_of
+written_fits text out = grind arith
+
+pub written_within : (text out : List ℕ) (size : ℕ) → written_as (Ok size) ≡ written_of text out → size ≤ length out
+written_within text out size e =
+    let same : size ≡ (written_of text out).length = ap (λ (w : Written). w.length) e in
+    rw same (written_fits text out)

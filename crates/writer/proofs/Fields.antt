@@ -1,134 +1,106 @@
 -- The fields of a line, and what they say: process, value, and N, S and V together.
 -- Assumes nothing.
-use Prim.Native.Nat.{ℕ, ◌+◌, ◌-◌, ◌<◌}
-use mathlib.Core.Path.{◌≡◌, refl, ap, ◌∙◌}
-use mathlib.Core.Bool.{Bool, true, false, cond, not, ◌&&◌, and-false, and-eq-true_iff}
-use mathlib.Core.List.{List, ◌∷◌}
-use native.Mathlib.Decide.{dec_lt}
-use native.Mathlib.Nat.{zero-add}
+use Prim.Native.Nat.{ℕ, ◌≤◌}
+use mathlib.Core.Path.{◌≡◌, refl}
+use mathlib.Core.Bool.{Bool, true, false}
+use mathlib.Core.List.{List, [], ◌∷◌}
 use native.Mathlib.Omega.{arith}
-use borrow.Author.Tests.{le-leb, lt-leb, leb-true, ne_eqb}
-use lib.Dec.{eqb, leb}
-use lib.ListN.{take, drop}
-use Rattle.numbers.specs.Numbers.{in_range_n, number_unless, first_found}
+use lib.Dec.{leb}
+use lib.ListN.{length, drop_of_length-le}
+use Rattle.std.specs.Prelude.{Option, Some, None, Err}
 use Rattle.text.specs.Decimal.{said}
 use Rattle.text.specs.Lines.{space}
-use Rattle.writer.specs.Types.{Numeral, Opening}
-use Rattle.writer.specs.Form.{place_of, before, behind, is_numeral, is_value, is_process, head_fine}
-use Rattle.writer.specs.Parts.{numeral_of, process_of, start_in, no_start, opening_by, opening_of}
+use Rattle.writer.specs.Types.{Ask, Step, Load, Check, NoNumeral}
+use Rattle.writer.specs.Form.{place_of, before, behind, all_digits, front, is_numeral, is_process, head_fine, line_fine, entry_in}
+use Rattle.writer.specs.Parts.{numeral_of, size_of, process_of, plain_of, store_of, line_of, opened_by, fields_of, opening_of}
 
--- the part up to a byte's first place, and the part behind it
-module _ (c : ℕ) (l : List ℕ) (end : ℕ) (e : end ≡ 0 + place_of c (drop 0 l)) where
-  is : end ≡ place_of c l
-  is = e ∙ zero-add (place_of c l)
+-- what stands behind a byte that stands nowhere, and what no bytes say
+pub behind_none : (c : ℕ) (l : List ℕ) → length l ≤ place_of c l → behind c l ≡ []
+behind_none c l h = drop_of_length-le l (omega (arith, h))
 
-  pub part_before : take (end - 0) (drop 0 l) ≡ before c l
-  part_before =
-      let k : end - 0 ≡ place_of c l = omega (arith, is) in
-      ap (λ (n : ℕ). take n l) k
+pub numeral_nothing : numeral_of [] ≡ Err NoNumeral
+unfolding numeral_of all_digits front
+numeral_nothing = refl
 
-  pub part_behind : drop (end + 1) l ≡ behind c l
-  part_behind = ap (λ (n : ℕ). drop (n + 1) l) is
+-- where nothing stands, no byte does
+pub behind_nothing : (c : ℕ) → behind c [] ≡ []
+behind_nothing c = behind_none c [] (omega arith)
 
--- a value, as a numeral says it
-pub value_small : (l : List ℕ) → (numeral_of l).small ≡ is_value l
-unfolding numeral_of
-value_small l = refl
+-- `L p`, `V p` and `T p`
+module _ (rest : List ℕ) where
+  load_by : (t : Bool) → is_process rest ≡ t → line_of (76 ∷ 32 ∷ rest) ≡ plain_of rest (Ask Load)
+  unfolding line_of line_fine entry_in process_of
+  load_by true h = rw h
+  load_by false h = rw h
 
-pub value_is : (l : List ℕ) → is_value l ≡ true → (numeral_of l).value ≡ said l
-unfolding numeral_of
-value_is l h = rw h
+  pub load_line : line_of (76 ∷ 32 ∷ rest) ≡ plain_of rest (Ask Load)
+  load_line = load_by (is_process rest) refl
 
--- a process, as a numeral says it
-pub process_by : (l : List ℕ) → process_of l ≡ cond ((numeral_of l).small && leb (numeral_of l).value 255) (numeral_of l).value 256
-unfolding numeral_of process_of
-process_by l = go (is_numeral l) (dec_lt (said l) 256) (dec_lt (said l) 18446744073709551616)
-  where
-    go : (t : Bool) → Dec (said l < 256) → Dec (said l < 18446744073709551616)
-        → cond (t && leb (said l) 255) (said l) 256
-        ≡ cond ((t && leb (said l) 18446744073709551615) && leb (cond (t && leb (said l) 18446744073709551615) (said l) 0) 255)
-        (cond (t && leb (said l) 18446744073709551615) (said l) 0) 256
-    go false d e = refl
-    go true (yes h) e = rw (le-leb (said l) 18446744073709551615 (omega (arith, h)), le-leb (said l) 255 (omega (arith, h)))
-    go true (no h) (yes k) = rw (le-leb (said l) 18446744073709551615 (omega (arith, k)), lt-leb (said l) 255 (omega (arith, h)))
-    go true (no h) (no k) = rw (lt-leb (said l) 18446744073709551615 (omega (arith, k)), lt-leb (said l) 255 (omega (arith, h)))
+  check_by : (t : Bool) → is_process rest ≡ t → line_of (86 ∷ 32 ∷ rest) ≡ plain_of rest (Ask Check)
+  unfolding line_of line_fine entry_in process_of
+  check_by true h = rw h
+  check_by false h = rw h
 
--- and the other way round: 256 where bytes are no process
-pub process_none : (l : List ℕ) → process_of l ≡ 256 → is_process l ≡ false
-unfolding process_of
-process_none l = go (is_process l) refl
-  where
-    go : (t : Bool) → is_process l ≡ t → cond t (said l) 256 ≡ 256 → t ≡ false
-    go false e k = refl
-    go true e k = absurd (omega (arith, k, leb-true (said l) 255 ((and-eq-true_iff (is_numeral l) (leb (said l) 255)).0 e).1))
+  pub check_line : line_of (86 ∷ 32 ∷ rest) ≡ plain_of rest (Ask Check)
+  check_line = check_by (is_process rest) refl
 
-pub process_some : (l : List ℕ) → (process_of l ≡ 256 → ⊥) → (is_process l ≡ true) × (process_of l ≡ said l)
-unfolding process_of
-process_some l f = go (is_process l) f
-  where
-    go : (t : Bool) → (cond t (said l) 256 ≡ 256 → ⊥) → (t ≡ true) × (cond t (said l) 256 ≡ said l)
-    go false g = absurd (g refl)
-    go true g = (refl, refl)
+  step_by : (t : Bool) → is_process rest ≡ t → line_of (84 ∷ 32 ∷ rest) ≡ plain_of rest Step
+  unfolding line_of line_fine entry_in process_of
+  step_by true h = rw h
+  step_by false h = rw h
 
--- a process and a value: whether both are there, and which they are
-pub store_fields : (a b : List ℕ) {p : ℕ} {told : Numeral} → p ≡ process_of a → told ≡ numeral_of b
-    → ((not (eqb p 256) && told.small) ≡ (is_process a && is_value b)) × (is_process a ≡ true → p ≡ said a) × (is_value b ≡ true → told.value ≡ said b)
-unfolding process_of numeral_of
-store_fields a b e k = rw (e, k) (go (is_process a) refl, (λ h. rw h), (λ h. rw h))
-  where
-    go : (t : Bool) → is_process a ≡ t → (not (eqb (cond t (said a) 256) 256) && is_value b) ≡ (t && is_value b)
-    go false h = refl
-    go true h =
-        let low = leb-true (said a) 255 ((and-eq-true_iff (is_numeral a) (leb (said a) 255)).0 h).1 in
-        rw (ne_eqb (said a) 256 (λ q. omega (arith, q, low)))
+  pub step_line : line_of (84 ∷ 32 ∷ rest) ≡ plain_of rest Step
+  step_line = step_by (is_process rest) refl
 
--- the start by the number that refuses N and S
-abbrev start_by : ℕ → ℕ → ℕ → ℕ → Opening
-start_by number n s v =
-    cond (eqb number 0) (record { fine = true; number = 0; n = n; s = s; v = v }) (record { fine = true; number = number; n = 0; s = 0; v = 0 })
+-- `S p value`
+module _ (rest : List ℕ) where
+  abbrev a : List ℕ
+  a = before space rest
 
--- a number of 2^64 or more, or 0 in its place: neither is an N or an S
-large_n : (x y z : ℕ) → start_in (cond (leb x 18446744073709551615) x 0) y z ≡ start_in x y z
-large_n x y z = go (dec_lt x 18446744073709551616)
-  where
-    go : Dec (x < 18446744073709551616) → start_in (cond (leb x 18446744073709551615) x 0) y z ≡ start_in x y z
-    go (yes h) = rw (le-leb x 18446744073709551615 (omega (arith, h)))
-    go (no h) = rw (lt-leb x 18446744073709551615 (omega (arith, h)), lt-leb x 16 (omega (arith, h)), and-false (leb 1 x))
+  abbrev v : List ℕ
+  v = behind space rest
 
-large_s : (x y z : ℕ) → start_in x (cond (leb y 18446744073709551615) y 0) z ≡ start_in x y z
-large_s x y z = go (dec_lt y 18446744073709551616)
-  where
-    same : (t : Bool) → start_by (first_found (number_unless t 16) 17) x 0 z ≡ start_by (first_found (number_unless t 16) 17) x y z
-    same true = refl
-    same false = refl
+  store_by : (t u w : Bool) → is_process a ≡ t → is_numeral v ≡ u → leb (said v) 18446744073709551615 ≡ w → line_of (83 ∷ 32 ∷ rest) ≡ store_of rest
+  unfolding line_of line_fine entry_in process_of numeral_of
+  store_by true true true h k l = rw (k, l, h)
+  store_by true true false h k l = rw (k, l, h)
+  store_by true false w h k l = rw (k, h)
+  store_by false true true h k l = rw (k, l, h)
+  store_by false true false h k l = rw (k, l, h)
+  store_by false false w h k l = rw (k, h)
 
-    go : Dec (y < 18446744073709551616) → start_in x (cond (leb y 18446744073709551615) y 0) z ≡ start_in x y z
-    go (yes h) = rw (le-leb y 18446744073709551615 (omega (arith, h)))
-    go (no h) =
-        rw (lt-leb y 18446744073709551615 (omega (arith, h)), lt-leb y 4294967295 (omega (arith, h)), and-false (leb 2 y))
-        (same (in_range_n x))
+  pub store_line : line_of (83 ∷ 32 ∷ rest) ≡ store_of rest
+  store_line = store_by (is_process a) (is_numeral v) (leb (said v) 18446744073709551615) refl refl refl
 
--- line one, by its three fields
-pub opening_by_lem : (rest : List ℕ)
-    → opening_by (numeral_of (before space rest)) (numeral_of (before space (behind space rest))) (numeral_of (behind space (behind space rest)))
-    ≡ opening_of (72 ∷ 32 ∷ rest)
-unfolding opening_by opening_of head_fine numeral_of
-opening_by_lem rest = go (is_numeral a) (is_numeral b) (is_value v)
-  where
-    a : List ℕ
-    a = before space rest
+-- `H N S V`
+module _ (rest : List ℕ) where
+  abbrev n : List ℕ
+  n = before space rest
 
-    b : List ℕ
-    b = before space (behind space rest)
+  abbrev s : List ℕ
+  s = before space (behind space rest)
 
-    v : List ℕ
-    v = behind space (behind space rest)
+  abbrev last : List ℕ
+  last = behind space (behind space rest)
 
-    go : (t u w : Bool)
-        → cond (t && (u && w))
-        (start_in (cond (t && leb (said a) 18446744073709551615) (said a) 0) (cond (u && leb (said b) 18446744073709551615) (said b) 0) (cond w (said v) 0)) no_start
-        ≡ cond (t && (u && w)) (start_in (said a) (said b) (said v)) no_start
-    go false u w = refl
-    go true false w = refl
-    go true true false = refl
-    go true true true = large_n (said a) (cond (leb (said b) 18446744073709551615) (said b) 0) (said v) ∙ large_s (said a) (said b) (said v)
+  head_by : (t u w x : Bool) → is_numeral n ≡ t → is_numeral s ≡ u → is_numeral last ≡ w → leb (said last) 18446744073709551615 ≡ x
+      → opening_of (72 ∷ 32 ∷ rest) ≡ fields_of rest
+  unfolding opening_of head_fine size_of numeral_of
+  head_by true true true true h k l m = rw (h, k, l, m)
+  head_by true true true false h k l m = rw (h, k, l, m)
+  head_by true true false x h k l m = rw (h, k, l)
+  head_by true false w x h k l m = rw (h, k)
+  head_by false true w x h k l m = rw h
+  head_by false false w x h k l m = rw h
+
+  pub head_line : opening_of (72 ∷ 32 ∷ rest) ≡ fields_of rest
+  head_line = head_by (is_numeral n) (is_numeral s) (is_numeral last) (leb (said last) 18446744073709551615) refl refl refl refl
+
+  -- with nothing behind the second space, or the first, there is no V
+  pub fields_short : last ≡ [] → fields_of rest ≡ None
+  fields_short h = rw (h, numeral_nothing) (go (size_of n) (size_of s))
+    where
+      go : (x y : Option ℕ) → opened_by x y (Err NoNumeral) ≡ None
+      go (Some x) (Some y) = refl
+      go (Some x) None = refl
+      go None y = refl

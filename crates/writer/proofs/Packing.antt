@@ -1,15 +1,12 @@
 -- Blocks stored one after another, and the whole file in a lent output.
 -- Assumes nothing.
-use Prim.Native.Nat.{ℕ, suc, ◌+◌, ◌-◌, ◌*◌, ◌≤◌, ◌<◌}
+use Prim.Native.Nat.{ℕ, suc, ◌+◌, min, ◌-◌, ◌*◌, ◌≤◌, ◌<◌}
 use mathlib.Core.Path.{◌≡◌, sym, ap, ◌∙◌}
-use mathlib.Core.Bool.{cond}
 use mathlib.Core.List.{List, ◌++◌, append_assoc}
 use native.Mathlib.Decide.{dec_lt}
 use native.Mathlib.Omega.{arith}
-use borrow.Author.Tests.{lt-ltb, le-ltb}
-use lib.Dec.{ltb}
 use lib.ListN.{length, take, drop, length-take, length-drop, length-append, drop_of_length-le}
-use lib.Seq.{sets, sets-eq, length-take-le, take_all, take_at, drop_at, drop-drop, drop-length}
+use lib.Seq.{sets, sets-eq, take_all, take_at, drop_at, drop-drop, drop-length}
 use Rattle.text.proofs.Pieces.{sets_more}
 use Rattle.run_log.specs.Log.{laid}
 use Rattle.run_log.proofs.Laws.{laid_fits, tail_given, tail_back}
@@ -25,41 +22,29 @@ part_stored l new at end h k e =
     let room : at + length new ≤ length l = omega (arith, h, k, e) in
     rw (drop-drop, ← e) (sym (sets-eq new l at room ∙ append_assoc (take at l) new (drop (at + length new) l)))
 
--- the bytes of a block that is lent
-pub part_whole : (l : List ℕ) (done : ℕ) → 512 * done + 512 ≤ length l → length (take (512 * done + 512 - 512 * done) (drop (512 * done) l)) ≡ 512
-part_whole l done h =
-    let size : 512 * done + 512 - 512 * done ≡ 512 = omega arith in
-    rw size (length-take-le 512 (drop (512 * done) l) (rw length-drop (omega (arith, h))))
-
 -- the share of a block: all that is left, or 42 entries
 module _ (es : List Entry) where
-  pub share_most : cond (ltb (length es) 42) (length es) 42 ≤ length es
-  share_most = go (dec_lt (length es) 42)
-    where
-      go : Dec (length es < 42) → cond (ltb (length es) 42) (length es) 42 ≤ length es
-      go (yes l) = rw (lt-ltb (length es) 42 l) (omega arith)
-      go (no g) = rw (le-ltb (length es) 42 (omega (arith, g))) (omega (arith, g))
-
-  pub share_few : cond (ltb (length es) 42) (length es) 42 ≤ 42
-  share_few = go (dec_lt (length es) 42)
-    where
-      go : Dec (length es < 42) → cond (ltb (length es) 42) (length es) 42 ≤ 42
-      go (yes l) = rw (lt-ltb (length es) 42 l) (omega (arith, l))
-      go (no g) = rw (le-ltb (length es) 42 (omega (arith, g))) (omega arith)
-
-  pub share_taken : take (cond (ltb (length es) 42) (length es) 42) es ≡ take 42 es
+  pub share_taken : take (min (length es) 42) es ≡ take 42 es
   share_taken = go (dec_lt (length es) 42)
     where
-      go : Dec (length es < 42) → take (cond (ltb (length es) 42) (length es) 42) es ≡ take 42 es
-      go (yes l) = rw (lt-ltb (length es) 42 l, take_all 42 es (omega (arith, l)), take_all (length es) es (omega arith))
-      go (no g) = rw (le-ltb (length es) 42 (omega (arith, g)))
+      go : Dec (length es < 42) → take (min (length es) 42) es ≡ take 42 es
+      go (yes l) =
+          let e : min (length es) 42 ≡ length es = omega (arith, l) in
+          rw (e, take_all 42 es (omega (arith, l)), take_all (length es) es (omega arith))
+      go (no g) =
+          let e : min (length es) 42 ≡ 42 = omega (arith, g) in
+          rw e
 
-  pub share_left : drop (cond (ltb (length es) 42) (length es) 42) es ≡ drop 42 es
+  pub share_left : drop (min (length es) 42) es ≡ drop 42 es
   share_left = go (dec_lt (length es) 42)
     where
-      go : Dec (length es < 42) → drop (cond (ltb (length es) 42) (length es) 42) es ≡ drop 42 es
-      go (yes l) = rw (lt-ltb (length es) 42 l, drop_of_length-le es {i = 42} (omega (arith, l)), drop-length es)
-      go (no g) = rw (le-ltb (length es) 42 (omega (arith, g)))
+      go : Dec (length es < 42) → drop (min (length es) 42) es ≡ drop 42 es
+      go (yes l) =
+          let e : min (length es) 42 ≡ length es = omega (arith, l) in
+          rw (e, drop_of_length-le es {i = 42} (omega (arith, l)), drop-length es)
+      go (no g) =
+          let e : min (length es) 42 ≡ 42 = omega (arith, g) in
+          rw e
 
 -- one block more
 few : (es : List Entry) → length (take 42 es) ≤ 42

@@ -1,34 +1,49 @@
 -- Where a byte stands first, byte by byte; and the parts that it stands between.
 -- Assumes nothing.
-use Prim.Native.Nat.{ℕ, suc, ◌+◌, ◌-◌, ◌≤◌, ◌<◌}
-use mathlib.Core.Path.{◌≡◌, refl}
-use mathlib.Core.Bool.{Bool, true, false, cond}
+use Prim.Native.Nat.{ℕ, suc, ◌+◌, ◌≤◌, ◌<◌}
+use mathlib.Core.Path.{◌≡◌, refl, sym, ◌∙◌}
+use mathlib.Core.Bool.{Bool, true, false, cond, not}
 use mathlib.Core.List.{List, [], ◌∷◌}
-use native.Mathlib.Numerals.{add-one}
+use native.Mathlib.Numerals.{add-one, one-add}
 use native.Mathlib.Omega.{arith}
-use borrow.Author.Tests.{eq-eqb, ne_eqb}
-use lib.Dec.{eqb}
-use lib.ListN.{length, get_or, take, drop, drop_of_length-le}
-use lib.Seq.{drop-cons, drop-length, take-nil}
+use native.Mathlib.Decide.{dec_lt}
+use borrow.Author.Tests.{lt-ltb}
+use lib.Dec.{eqb, ltb}
+use lib.ListN.{length, take, drop, drop_of_length-le}
+use Rattle.std.specs.Prelude.{Option, Some, None}
+use Rattle.std.specs.List.{position, position_or_len}
+use Rattle.std.proofs.lemmas.List.Sums.{prefix_len-le-length}
+use Rattle.std.proofs.lemmas.Option.{cond_some, none-some}
+use Rattle.std.proofs.lemmas.List.Recursion.{is_position_or_len}
 use Rattle.writer.specs.Form.{place_of, before, behind, begun_with, parts}
 
-module _ (c : ℕ) (l : List ℕ) (i : ℕ) (h : i < length l) where
-  -- it stands here, or it is looked for from the next place on
-  pub place_here : get_or l i 0 ≡ c → place_of c (drop i l) ≡ 0
-  unfolding place_of
-  place_here e = rw (drop-cons l i 0 h, eq-eqb (get_or l i 0) c e)
-
-  pub place_next : (get_or l i 0 ≡ c → ⊥) → place_of c (drop i l) ≡ suc (place_of c (drop (i + 1) l))
-  unfolding place_of
-  place_next e = rw (drop-cons l i 0 h, ne_eqb (get_or l i 0) c e, add-one i)
-
--- behind the end it stands nowhere
-pub place_end : (c : ℕ) (l : List ℕ) (i : ℕ) → length l ≤ i → place_of c (drop i l) ≡ 0
+-- the library's word for it
+pub place_is : (c : ℕ) (l : List ℕ) → place_of c l ≡ position_or_len (λ x. eqb x c) l
 unfolding place_of
-place_end c l i h = rw (drop_of_length-le l h)
+place_is c l = is_position_or_len (place_of c) (λ x. eqb x c) refl (λ x xs. rw one-add) l
 
-pub nothing_behind : (l : List ℕ) (at : ℕ) → length l ≤ at → take (length l - length l) (drop (length l) l) ≡ drop (at + 1) l
-nothing_behind l at h = rw (drop_of_length-le l {i = at + 1} (omega arith), drop-length l) (take-nil (length l - length l))
+pub place_most : (c : ℕ) (l : List ℕ) → place_of c l ≤ length l
+place_most c l = rw place_is (prefix_len-le-length (λ x. not (eqb x c)) l)
+
+-- what the library's search for it says
+module _ (c : ℕ) (l : List ℕ) {r : Option ℕ} (e : r ≡ position (λ x. eqb x c) l) where
+  abbrev found : ℕ → Option ℕ
+  found p = cond (ltb p (length l)) (Some p) None
+
+  is : r ≡ found (place_of c l)
+  is = rw place_is e
+
+  pub place_found : (p : ℕ) → r ≡ Some p → place_of c l ≡ p
+  place_found p h = (cond_some (ltb (place_of c l) (length l)) (place_of c l) p (sym is ∙ h)).1
+
+  pub place_missed : r ≡ None → place_of c l ≡ length l
+  place_missed h = go (dec_lt (place_of c l) (length l))
+    where
+      go : Dec (place_of c l < length l) → place_of c l ≡ length l
+      go (yes k) =
+          let f : found (place_of c l) ≡ Some (place_of c l) = rw (lt-ltb (place_of c l) (length l) k) in
+          absurd (none-some (place_of c l) (sym h ∙ is ∙ f))
+      go (no k) = omega (arith, k, place_most c l)
 
 -- the first part, and those behind it: where the byte stands, and where it stands nowhere
 pub parts_first : (c : ℕ) (l : List ℕ) → place_of c l < length l → parts c l ≡ before c l ∷ parts c (behind c l)
@@ -52,3 +67,8 @@ parts_none c (b ∷ bs) h = go (eqb b c) h (parts_none c bs)
         → cond t ([] ∷ parts c bs) (begun_with b (parts c bs)) ≡ (b ∷ bs) ∷ []
     go true l f = absurd (omega (arith, l))
     go false l f = rw (f (omega (arith, l)))
+
+-- behind the end it stands nowhere
+pub place_end : (c : ℕ) (l : List ℕ) (i : ℕ) → length l ≤ i → place_of c (drop i l) ≡ 0
+unfolding place_of
+place_end c l i h = rw (drop_of_length-le l h)

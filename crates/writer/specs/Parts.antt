@@ -1,69 +1,111 @@
 -- What the inner functions promise: a numeral, a line, and a text as far as the writer goes through it before it writes.
-use Rattle.std.specs.Prelude.{ℕ, ◌+◌, Bool, true, false, cond, ◌&&◌, List, eqb, leb, length, drop}
+use Rattle.std.specs.Prelude.{ℕ, ◌≡◌, ◌+◌, Bool, cond, Option, Some, None, option_map, Result, Ok, Err, List, eqb, leb, length}
 use Rattle.numbers.specs.Numbers.{range_number}
-use Rattle.schedule.specs.File.{no_entry}
+use Rattle.numbers.specs.Refusals.{refusal_number}
 use Rattle.text.specs.Decimal.{said}
-use Rattle.text.specs.Lines.{newline}
-use Rattle.writer.specs.Types.{Entry, Line, Lines, Numeral, Opening, Scanned}
-use Rattle.writer.specs.Form.{place_of, parts, is_numeral, is_value, is_process, head_fine, field_n, field_s, field_v, line_fine, entry_in, first_outside_by, outside, entries_in, text_n, text_s, text_v, text_entries}
+use Rattle.text.specs.Lines.{space, newline}
+use Rattle.writer.specs.Types.{Process, Entry, Kind, Ask, Store, NumeralError, NoNumeral, TooLarge, Opening, Read, Told, TextRefusal, Scanned}
+use Rattle.writer.specs.Form.{place_of, before, behind, parts, is_numeral, is_process, head_fine, field_n, field_s, field_v, line_fine, entry_in, line_one, first_outside, first_outside_by, outside_by, outside, entries_in, text_n, text_s, text_v, text_entries}
 use Rattle.writer.specs.Writer.{text_number}
 
--- whether bytes are a numeral, whether one below 2^64, and then which number
-unfoldable pub numeral_of : List ℕ → Numeral
-numeral_of l = record { fine = is_numeral l; small = is_value l; value = cond (is_value l) (said l) 0 }
+-- whether bytes are a numeral, and then its number, if it is below 2^64
+unfoldable pub numeral_of : List ℕ → Result ℕ NumeralError
+numeral_of l = cond (is_numeral l) (cond (leb (said l) 18446744073709551615) (Ok (said l)) (Err TooLarge)) (Err NoNumeral)
 
--- the process number that bytes say, or 256
-unfoldable pub process_of : List ℕ → ℕ
-process_of l = cond (is_process l) (said l) 256
+-- a numeral as a size: a number of 2^64 or more, which is out of every range, is given as 0, which is so too
+abbrev pub below_64 : ℕ → ℕ
+below_64 n = cond (leb n 18446744073709551615) n 0
 
-abbrev pub no_line : Line
-no_line = record { fine = false; entry = no_entry }
+unfoldable pub size_of : List ℕ → Option ℕ
+size_of l = cond (is_numeral l) (Some (below_64 (said l))) None
 
-unfoldable pub line_of : List ℕ → Line
-line_of line = record { fine = line_fine line; entry = entry_in line }
+-- the process that bytes say
+unfoldable pub process_of : List ℕ → Option Process
+process_of l = cond (is_process l) (Some (record { 0 = said l })) None
 
--- line one: whether it is in the form, the number that refuses N and S or 0, and then all three
-abbrev pub no_start : Opening
-no_start = record { fine = false; number = 0; n = 0; s = 0; v = 0 }
+-- what a further line asks for
+unfoldable pub line_of : List ℕ → Option Entry
+line_of line = cond (line_fine line) (Some (entry_in line)) None
 
-abbrev pub start_in : ℕ → ℕ → ℕ → Opening
-start_in n s v =
-    let number = range_number n (record { 0 = s }) in
-    cond (eqb number 0) (record { fine = true; number = 0; n = n; s = s; v = v }) (record { fine = true; number = number; n = 0; s = 0; v = 0 })
+-- by its fields: `p` behind the letter of a kind, and `p value` behind S
+abbrev pub asks : Kind → Process → Entry
+asks kind p = record { process = p; kind = kind }
 
--- by what its three fields say
-unfoldable pub opening_by : Numeral → Numeral → Numeral → Opening
-opening_by n s v = cond (n.fine && (s.fine && v.small)) (start_in n.value s.value v.value) no_start
+abbrev pub plain_of : List ℕ → Kind → Option Entry
+plain_of rest kind = option_map (asks kind) (process_of rest)
 
-unfoldable pub opening_of : List ℕ → Opening
-opening_of line = cond (head_fine line) (start_in (said (field_n line)) (said (field_s line)) (said (field_v line))) no_start
+abbrev pub stored_by : List ℕ → Result ℕ NumeralError → Option Entry
+stored_by process (Ok value) = plain_of process (Ask (Store value))
+stored_by process (Err e) = None
 
--- the lines of a text from a place on, and the entries that they ask for
-abbrev pub lines_from : List ℕ → ℕ → List (List ℕ)
-lines_from text at = parts newline (drop at text)
+abbrev pub store_of : List ℕ → Option Entry
+store_of rest = stored_by (before space rest) (numeral_of (behind space rest))
 
-unfoldable pub entries_from : List ℕ → ℕ → List Entry
-entries_from text at = entries_in (lines_from text at)
+-- line one: N, S and V
+abbrev pub opening_in : List ℕ → Opening
+opening_in line = record { n = below_64 (said (field_n line)); s = below_64 (said (field_s line)); v = said (field_v line) }
 
--- what lines come to, the first of which has number k, behind e entries: the first line outside the form, or how many entries
-unfoldable pub over_lines_by : (List ℕ → Bool) → ℕ → ℕ → List (List ℕ) → Lines
-over_lines_by fine k e ls =
-    cond (eqb (first_outside_by fine k ls) 0) (record { line = 0; entries = e + length (entries_in ls) })
-    (record { line = first_outside_by fine k ls; entries = 0 })
+unfoldable pub opening_of : List ℕ → Option Opening
+opening_of line = cond (head_fine line) (Some (opening_in line)) None
 
-abbrev pub over_lines : ℕ → ℕ → List (List ℕ) → Lines
-over_lines k e ls = over_lines_by line_fine k e ls
+-- by its fields
+abbrev pub opened_by : Option ℕ → Option ℕ → Result ℕ NumeralError → Option Opening
+opened_by (Some n) (Some s) (Ok v) = Some (record { n = n; s = s; v = v })
+opened_by (Some n) (Some s) (Err e) = None
+opened_by (Some n) None v = None
+opened_by None s v = None
 
--- the whole text
+abbrev pub fields_of : List ℕ → Option Opening
+fields_of rest =
+    opened_by (size_of (before space rest)) (size_of (before space (behind space rest))) (numeral_of (behind space (behind space rest)))
+
+-- the lines of what stands behind line one, and the entries that they ask for
+abbrev pub lines_in : List ℕ → List (List ℕ)
+lines_in rest = parts newline rest
+
+unfoldable pub entries_left : List ℕ → List Entry
+entries_left rest = entries_in (lines_in rest)
+
+-- all of them are in the form
+unfoldable pub InForm : List ℕ → Type 0
+InForm rest = first_outside 1 (lines_in rest) ≡ 0
+
+-- what lines come to, the first of which has number k, behind e entries: how many entries, or the first line outside the form
+unfoldable pub over_lines_by : (List ℕ → Bool) → ℕ → ℕ → List (List ℕ) → Result ℕ ℕ
+over_lines_by fine k e ls = cond (eqb (first_outside_by fine k ls) 0) (Ok (e + length (entries_in ls))) (Err (first_outside_by fine k ls))
+
+-- a whole text of any form: what line one says, where the further lines begin and how many entries they ask for, or its first line outside
+-- the form
+unfoldable pub read_by : {T : Type 0} → (List ℕ → Bool) → (List ℕ → T) → (List ℕ → Bool) → List ℕ → Result (Read T) ℕ
+read_by headed opening fine text =
+    cond (eqb (outside_by headed fine text) 0)
+    (Ok (record { opening = opening (line_one text); from = place_of newline text + 1; entries = length (text_entries text) }))
+    (Err (outside_by headed fine text))
+
+-- the whole text, in the documents' numbers
 abbrev pub passed_over : ℕ → ℕ → Scanned
 passed_over number line = record { number = number; line = line; from = 0; entries = 0; n = 0; s = 0; v = 0 }
+
+abbrev pub scanned_as : Result Told TextRefusal → Scanned
+scanned_as (Ok told) =
+    record {
+      number = 0;
+      line = 0;
+      from = told.from;
+      entries = told.entries;
+      n = told.start.n;
+      s = told.start.s;
+      v = told.start.v;
+    }
+scanned_as (Err e) = passed_over (refusal_number e.refusal) e.line
 
 -- a text whose lines are all in the form, by what line one says, where the further lines begin and how many entries they ask for
 unfoldable pub judged : Opening → ℕ → ℕ → Scanned
 judged o from entries =
-    cond (eqb o.number 0)
+    let number = range_number o.n (record { 0 = o.s }) in
+    cond (eqb number 0)
     (cond (leb entries 5334) (record { number = 0; line = 0; from = from; entries = entries; n = o.n; s = o.s; v = o.v }) (passed_over 26 0))
-    (passed_over o.number 0)
+    (passed_over number 0)
 
 abbrev pub within : List ℕ → Scanned
 within text =

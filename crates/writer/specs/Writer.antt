@@ -1,8 +1,9 @@
 -- Document 02, P1 and P2: what the writer answers, and what every byte of a lent output then is.
-use Rattle.std.specs.Prelude.{ℕ, cond, List, eqb, leb, length}
+use Rattle.std.specs.Prelude.{ℕ, cond, Result, Ok, Err, List, eqb, leb, length}
 use Rattle.numbers.specs.Numbers.{number_unless, first_found, range_number}
+use Rattle.numbers.specs.Refusals.{refusal_number}
 use Rattle.run_log.specs.Log.{laid}
-use Rattle.writer.specs.Types.{Written}
+use Rattle.writer.specs.Types.{TextRefusal, Written}
 use Rattle.writer.specs.Form.{outside, text_n, text_s, text_v, text_entries}
 use Rattle.writer.specs.Made.{file_made}
 
@@ -20,6 +21,11 @@ text_file text = file_made (text_n text) (text_s text) (text_v text) (text_entri
 -- ".. 27 for a lent output that is too short": the number, the line that 25 names, the length of what was written
 abbrev pub turned : ℕ → ℕ → Written
 turned number line = record { number = number; line = line; length = 0 }
+
+-- what an answer tells
+abbrev pub written_as : Result ℕ TextRefusal → Written
+written_as (Ok length) = record { number = 0; line = 0; length = length }
+written_as (Err e) = turned (refusal_number e.refusal) e.line
 
 unfoldable pub written_of : List ℕ → List ℕ → Written
 written_of text out =

@@ -1,86 +1,64 @@
 // A schedule file from a text.
-ghost use Rattle.std.specs.Prelude.{◌≡◌, cond, ◌+◌, ◌*◌, ◌≤◌, ltb, length};
+ghost use Rattle.std.specs.Prelude.{◌≡◌, ◌+◌, ◌*◌, ◌≤◌, length};
 ghost use Rattle.std.proofs.lemmas.List.Edits.{sets};
 ghost use Rattle.run_log.specs.Log.{laid};
 ghost use Rattle.writer.specs.Made.{packed, blocks_for, file_made};
-ghost use Rattle.writer.specs.Writer.{turned, written_of, written_in};
-ghost use Rattle.writer.specs.Parts.{entries_from};
+ghost use Rattle.writer.specs.Writer.{written_as, written_of, written_in};
+ghost use Rattle.writer.specs.Parts.{InForm, entries_left};
 
-use crate::Written;
-use crate::block::{write_block, write_first};
+use crate::TextRefusal;
+use crate::block::{first_block, later_block};
 use crate::scan::scan;
+use numbers::Refusal;
+use schedule::Start;
 
-// How many entries a block gets of those that are left.
-fn block_share(left: usize) -> usize
-    ensures { result ≡ cond (ltb left 42) left 42 }
+// How many blocks the entries fill, 42 to a block.
+fn block_count(entries: usize) -> usize
+    ensures { result ≡ blocks_for entries }
 {
-    if left < 42 { left } else { 42 }
+    entries.div_ceil(42)
 }
 
 // The blocks after block 0, at the front of a part with room for them: each is filled before the next is opened.
-fn write_later(text: &[u8], from: usize, rest: &mut [u8], entries: usize)
-    requires { (from ≤ length text.now) × (entries ≡ length (entries_from text.now from)) × (entries ≤ 5334) × (512 * blocks_for entries ≤ length rest.old) }
-    ensures { rest.new ≡ sets rest.old 0 (packed (blocks_for entries) 1 (entries_from text.now from)) }
+fn write_later(lines: &[u8], rest: &mut [u8], entries: usize)
+    requires form { InForm lines.now }
+    requires count { entries ≡ length (entries_left lines.now) }
+    requires few { entries ≤ 5334 }
+    requires room { 512 * blocks_for entries ≤ length rest.old }
+    ensures { rest.new ≡ sets rest.old 0 (packed (blocks_for entries) 1 (entries_left lines.now)) }
 {
-    let blocks = (entries + 41) / 42;
-    let mut at = from;
     let mut left = entries;
-    let mut done = 0;
-    while done < blocks {
-        let k = done + 1;
-        let c = block_share(left);
-        let place = 512 * done;
-        let end = place + 512;
-        at = write_block(text, at, &mut rest[place..end], k, c);
-        left = left - c;
-        done = k;
+    let mut behind = lines;
+    for k in 0..block_count(entries) {
+        let share = left.min(42);
+        let (block, next) = later_block(behind, k + 1, share);
+        rest[512 * k..512 * k + 512].copy_from_slice(&block);
+        behind = next;
+        left -= share;
     }
 }
 
 // The file, where the output has room for it.
-fn write_file(text: &[u8], from: usize, out: &mut [u8], entries: usize, n: u8, s: u64, v: u64)
-    requires { (from ≤ length text.now) × (entries ≡ length (entries_from text.now from)) × (entries ≤ 5334) × (512 + 512 * blocks_for entries ≤ length out.old) }
-    ensures { out.new ≡ laid (file_made n s v (entries_from text.now from)) out.old }
+fn write_file(start: Start, lines: &[u8], entries: usize, out: &mut [u8])
+    requires form { InForm lines.now }
+    requires count { entries ≡ length (entries_left lines.now) }
+    requires few { entries ≤ 5334 }
+    requires room { 512 + 512 * blocks_for entries ≤ length out.old }
+    ensures { out.new ≡ laid (file_made start.n start.s start.v (entries_left lines.now)) out.old }
 {
-    let blocks = (entries + 41) / 42;
-    write_first(&mut out[0..512], n, s, v, blocks);
-    write_later(text, from, &mut out[512..], entries);
+    out[..512].copy_from_slice(&first_block(start, block_count(entries)));
+    write_later(lines, &mut out[512..], entries);
 }
 
-fn turn_away(number: usize, line: usize) -> Written
-    ensures { result ≡ turned number line }
+// A text and a lent output: how long the file is that was written, or what turned the text away.
+pub fn write_text(text: &[u8], out: &mut [u8]) -> Result<usize, TextRefusal>
+    ensures { (written_as result ≡ written_of text.now out.old) × (out.new ≡ written_in text.now out.old) }
 {
-    Written {
-        number: number,
-        line: line,
-        length: 0,
+    let told = scan(text)?;
+    let length = 512 + 512 * block_count(told.entries);
+    if out.len() < length {
+        return Err(TextRefusal::from(Refusal::OutputRoom));
     }
-}
-
-// A text and a lent output: what turned it away, or how long the file is that was written.
-pub fn write_text(text: &[u8], out: &mut [u8]) -> Written
-    ensures { (result ≡ written_of text.now out.old) × (out.new ≡ written_in text.now out.old) }
-{
-    let told = scan(text);
-    let number = told.number;
-    let line = told.line;
-    if number != 0 {
-        return turn_away(number, line);
-    }
-    let entries = told.entries;
-    let blocks = (entries + 41) / 42;
-    let need = 512 + 512 * blocks;
-    if out.len() < need {
-        return turn_away(27, 0);
-    }
-    let from = told.from;
-    let n = told.n;
-    let s = told.s;
-    let v = told.v;
-    write_file(text, from, out, entries, n, s, v);
-    Written {
-        number: 0,
-        line: 0,
-        length: need,
-    }
+    write_file(told.start, &text[told.from..], told.entries, out);
+    Ok(length)
 }

@@ -1,43 +1,29 @@
 // Where a byte stands first.
-ghost use Rattle.std.specs.Prelude.{◌≡◌, ◌+◌, ◌≤◌, length, drop};
-ghost use Rattle.writer.specs.Form.{place_of};
+ghost use Rattle.std.specs.Prelude.{◌≡◌, ◌+◌, ◌≤◌, ◌<◌, length, drop, IfNone, IfSome};
+ghost use Rattle.writer.specs.Form.{place_of, before, behind};
 
-// The place of the first such byte from a place on, or the end of the bytes.
-pub(crate) fn place_from(b: &[u8], at: usize, c: u8) -> usize
-    requires { at ≤ length b.now }
-    ensures { (result ≡ at + place_of c (drop at b.now)) × (result ≤ length b.now) }
-{
-    let n = b.len();
-    let mut i = at;
-    while i < n {
-        let x = b[i];
-        if x == c {
-            return i;
-        }
-        i = i + 1;
-    }
-    i
-}
-
-// The same, wherever the place is: behind the end of the bytes it is the place itself.
+// The place of the first such byte from a place on, or the end of the bytes; behind the end it is the place itself.
 pub fn place_of(b: &[u8], at: usize, c: u8) -> usize
     ensures { result ≡ at + place_of c (drop at b.now) }
 {
-    if b.len() < at {
+    let Some(rest) = b.get(at..) else {
         return at;
+    };
+    match rest.iter().position(|x| *x == c) {
+        Some(place) => at + place,
+        None => b.len(),
     }
-    place_from(b, at, c)
 }
 
-// What stands behind a place.
-pub(crate) fn behind(b: &[u8], at: usize) -> &[u8]
-    requires { at ≤ length b.now }
-    ensures { result.now ≡ drop (at + 1) b.now }
+// What stands before the first such byte, and what stands behind it.
+pub(crate) fn split_once(b: &[u8], c: u8) -> Option<(&[u8], &[u8])>
+    ensures none { IfNone result (length b.now ≤ place_of c b.now) }
+    ensures some { IfSome result (λ r. (place_of c b.now < length b.now) × (r.0.now ≡ before c b.now) × (r.1.now ≡ behind c b.now)) }
 {
-    let n = b.len();
-    if at < n {
-        let next = at + 1;
-        return &b[next..n];
+    let place = place_of(b, 0, c);
+    if place < b.len() {
+        Some((&b[..place], &b[place + 1..]))
+    } else {
+        None
     }
-    &b[n..n]
 }

@@ -1,123 +1,148 @@
 // A text as a whole: whether it is refused, and what it says.
-ghost use Rattle.std.specs.Prelude.{◌≡◌, ◌≤◌, ◌<◌, length, get_or, drop};
-ghost use Rattle.schedule.specs.File.{no_entry};
-ghost use Rattle.writer.specs.Parts.{lines_from, entries_from, over_lines, passed_over, judged, scanned_of};
+ghost use Rattle.std.specs.Prelude.{◌≡◌, ◌+◌, ◌^◌, ◌<◌, ℕ, Bool, List, ◌∷◌, cond, length};
+ghost use Rattle.writer.specs.Form.{head_fine, line_fine, entry_in};
+ghost use Rattle.writer.specs.Parts.{opening_in, InForm, entries_left, lines_in, over_lines_by, read_by, scanned_as, scanned_of, judged};
 
-use crate::find::place_from;
+use crate::find::split_once;
 use crate::form::{read_line, read_start};
-use crate::{Lines, Next, Opening, Scanned};
+use crate::{Opening, TextRefusal, Told};
+use numbers::{Refusal, Sequence, check_range};
+use schedule::Start;
+use step::Entry;
 
-// The further lines, which begin at a place behind line one.
-fn scan_lines(text: &[u8], from: usize) -> Lines
-    requires { (1 ≤ from) × (from ≤ length text.now) }
-    ensures { result ≡ over_lines 2 0 (lines_from text.now from) }
+// A form of texts: what line one says, and what each further line asks for, where they are in the form.
+pub trait TextForm {
+    type Opening: Copy;
+
+    type Entry: Copy;
+
+    ghost headed: { List ℕ → Bool };
+
+    ghost opening: { List ℕ → Self.Opening };
+
+    ghost fine: { List ℕ → Bool };
+
+    ghost entry: { List ℕ → Self.Entry };
+
+    fn read_start(line: &[u8]) -> Option<Self::Opening>
+        ensures { result ≡ cond (headed line.now) (Some (opening line.now)) None };
+
+    fn read_line(line: &[u8]) -> Option<Self::Entry>
+        ensures { result ≡ cond (fine line.now) (Some (entry line.now)) None };
+}
+
+// What a text in the form says: what line one says, where the further lines begin, and how many there are.
+#[derive(Clone, Copy)]
+pub struct Read<T> {
+    pub opening: T,
+    pub from: usize,
+    pub entries: usize,
+}
+
+// The further lines: how many, or the first that is outside the form, where line one is line 1.
+fn read_further<F: TextForm>(lines: &[u8]) -> Result<usize, usize>
+    requires { length lines.now + 1 < 2 ^ 64 }
+    ensures { result ≡ over_lines_by F.fine 2 0 (lines_in lines.now) }
 {
-    let n = text.len();
-    let mut at = from;
+    let mut rest = lines;
     let mut entries = 0;
-    while at < n {
-        let end = place_from(text, at, 10);
-        if end == n {
-            return Lines {
-                line: entries + 2,
-                entries: 0,
-            };
+    while let Some((line, behind)) = split_once(rest, b'\n') {
+        if F::read_line(line).is_none() {
+            return Err(entries + 2);
         }
-        let this = read_line(&text[at..end]);
-        let fine = this.fine;
-        if fine {
-            entries = entries + 1;
-            at = end + 1;
-        } else {
-            return Lines {
-                line: entries + 2,
-                entries: 0,
-            };
-        }
+        entries += 1;
+        rest = behind;
     }
-    Lines {
-        line: 0,
-        entries: entries,
+    if rest.is_empty() {
+        Ok(entries)
+    } else {
+        Err(entries + 2)
     }
 }
 
-fn pass_over(number: usize, line: usize) -> Scanned
-    ensures { result ≡ passed_over number line }
+// A whole text of a form, or its first line outside the form.
+pub fn read_text<F: TextForm>(text: &[u8]) -> Result<Read<F::Opening>, usize>
+    ensures { result ≡ read_by F.headed F.opening F.fine text.now }
 {
-    Scanned {
-        number: number,
-        line: line,
-        from: 0,
-        entries: 0,
-        n: 0,
-        s: 0,
-        v: 0,
+    let Some((line, lines)) = split_once(text, b'\n') else {
+        return Err(1);
+    };
+    let Some(opening) = F::read_start(line) else {
+        return Err(1);
+    };
+    let entries = read_further::<F>(lines)?;
+    Ok(Read {
+        opening,
+        from: line.len() + 1,
+        entries,
+    })
+}
+
+// The form of document 02, P1.
+pub struct Schedules;
+
+impl TextForm for Schedules {
+    type Opening = Opening;
+
+    type Entry = Entry;
+
+    ghost headed = { head_fine };
+
+    ghost opening = { opening_in };
+
+    ghost fine = { line_fine };
+
+    ghost entry = { entry_in };
+
+    #[tactic(auto, unfolding(crate::specs::Parts::opening_of))]
+    fn read_start(line: &[u8]) -> Option<Opening> {
+        read_start(line)
+    }
+
+    #[tactic(auto, unfolding(crate::specs::Parts::line_of))]
+    fn read_line(line: &[u8]) -> Option<Entry> {
+        read_line(line)
     }
 }
 
 // "16 (N), 17 (S)", then "26 for more than 5,334 entries": all lines are in the form.
-fn judge(opening: Opening, from: usize, entries: usize) -> Scanned
-    ensures { result ≡ judged opening from entries }
+fn judge(read: Read<Opening>) -> Result<Told, TextRefusal>
+    ensures { scanned_as result ≡ judged read.opening read.from read.entries }
 {
-    let number = opening.number;
-    let ranged = number == 0;
-    let few = entries <= 5334;
-    if ranged {
-        if few {
-            let n = opening.n;
-            let s = opening.s;
-            let v = opening.v;
-            return Scanned {
-                number: 0,
-                line: 0,
-                from: from,
-                entries: entries,
-                n: n,
-                s: s,
-                v: v,
-            };
-        }
-        return pass_over(26, 0);
+    let Opening { n, s, v } = read.opening;
+    check_range(n as usize, Sequence(s))?;
+    if read.entries > 5334 {
+        return Err(TextRefusal::from(Refusal::TooMany));
     }
-    pass_over(number, 0)
+    Ok(Told {
+        start: Start { n: n as u8, s, v },
+        from: read.from,
+        entries: read.entries,
+    })
 }
 
 // A whole text.
-pub(crate) fn scan(text: &[u8]) -> Scanned
-    ensures { result ≡ scanned_of text.now }
+pub(crate) fn scan(text: &[u8]) -> Result<Told, TextRefusal>
+    ensures { scanned_as result ≡ scanned_of text.now }
 {
-    let len = text.len();
-    let end = place_from(text, 0, 10);
-    if end == len {
-        return pass_over(25, 1);
+    match read_text::<Schedules>(text) {
+        Ok(read) => judge(read),
+        Err(line) => Err(TextRefusal {
+            refusal: Refusal::Form,
+            line,
+        }),
     }
-    let opening = read_start(&text[0..end]);
-    let fine = opening.fine;
-    if fine {
-        let from = end + 1;
-        let lines = scan_lines(text, from);
-        let line = lines.line;
-        let entries = lines.entries;
-        if line != 0 {
-            return pass_over(25, line);
-        }
-        return judge(opening, from, entries);
-    }
-    pass_over(25, 1)
 }
 
-// The entry that the next line asks for, and the place behind its newline.
-pub(crate) fn next_entry(text: &[u8], at: usize) -> Next
-    requires { (at ≤ length text.now) × (0 < length (entries_from text.now at)) }
-    ensures { (result.entry ≡ get_or (entries_from text.now at) 0 no_entry) × (entries_from text.now result.at ≡ drop 1 (entries_from text.now at))
-        × (result.at ≤ length text.now) × (result.entry.process.0 < 256) }
+// The entry that the next line asks for, and the lines behind it.
+pub(crate) fn next_entry(lines: &[u8]) -> (Entry, &[u8])
+    requires form { InForm lines.now }
+    requires some { 0 < length (entries_left lines.now) }
+    ensures entry { entries_left lines.now ≡ result.0 ∷ entries_left result.1.now }
+    ensures form { InForm result.1.now }
+    ensures small { result.0.process.0 < 256 }
 {
-    let end = place_from(text, at, 10);
-    let this = read_line(&text[at..end]);
-    let entry = this.entry;
-    let next = end + 1;
-    Next {
-        entry: entry,
-        at: next,
-    }
+    let (line, behind) = split_once(lines, b'\n').unwrap();
+    let entry = read_line(line).unwrap();
+    (entry, behind)
 }

@@ -1,45 +1,41 @@
-use Rattle.std.proofs.Common.{arith, ◌≡◌, ◌+◌, ◌-◌, ◌*◌, ◌<◌, drop, sym, ◌∙◌}
-use Rattle.std.proofs.lemmas.Bool.{leb-true, leb-false}
-use Rattle.text.specs.Decimal.{said, said_from}
-use Rattle.writer.proofs.Digits.{digits_next, digits_end, said_next, said_end, said_least, numeral_small, numeral_large, numeral_none}
+use Rattle.std.proofs.Common.{arith, ◌≡◌, ◌+◌, ◌-◌, ◌*◌, ◌<◌, length, drop, refl, sym, ◌∙◌, slice_index_or}
+use Rattle.writer.proofs.Digits.{digit_here, said_next, said_end, value_small, value_large}
 use Rattle.writer.proofs.decimal.read_digits.Goals as goal
 
-pub loop-i-preserved : goal.loop-i-preserved
-loop-i-preserved c =
+pub returns-in_err-checked_mul : goal.returns-in_err-checked_mul
+returns-in_err-checked_mul c =
     let b = c.args.b.now in
-    let i = c.loop-i.i in
-    let inv = c.loop-i.invariant in
-    let more = c.loop-i-test.true in (
-      omega arith,
-      leb-true _ _ (sym c.has_room-room.ensures ∙ c.if-room.true),
-      inv.2 ∙ digits_next b i more ∙ rw (← c.is_digit-digit.ensures, c.if-digit.true),
-      inv.3 ∙ said_next b i more c.loop-i.value ∙ rw c.wide.ensures.0,
-    )
+    let i = c.loop-x.x-index in
+    let v = c.loop-x.value in
+    let w = v * 10 + (slice_index_or b i 0 - 48) in
+    let says = c.loop-x.invariant.says ∙ said_next b i (omega arith) v w refl in
+    c.from_residual.ensures ∙ sym (value_large b (drop (i + 1) b) w says (omega (arith, c.in_err-checked_mul.ensures)))
 
-pub returns-else-room : goal.returns-else-room
-returns-else-room c =
-    let b = c.args.b.now in
-    let i = c.loop-i.i in
-    let inv = c.loop-i.invariant in
-    let value = c.loop-i.value in
-    let d = c.wide.result - 48 in
-    let says : said b ≡ said_from (10 * value + d) (drop (i + 1) b) =
-    inv.3 ∙ said_next b i c.loop-i-test.true value ∙ rw c.wide.ensures.0 in
-    let large : 18446744073709551615 < 10 * value + d = leb-false _ _ (sym c.has_room-room.ensures ∙ c.if-room.false) in
-    rw (c.larger.ensures, ← inv.2)
-    (sym (numeral_large b c.requires (omega (arith, large, says, said_least (10 * value + d) (drop (i + 1) b)))))
+pub overflow_sub-x : goal.overflow_sub-x
+overflow_sub-x c = (digit_here c.args.b.now c.loop-x.x-index (omega arith) c.loop-x.invariant.digits).0
 
-pub returns-else-digit : goal.returns-else-digit
-returns-else-digit c =
+pub returns-in_err-value : goal.returns-in_err-value
+returns-in_err-value c =
     let b = c.args.b.now in
-    let i = c.loop-i.i in
-    c.no_numeral.ensures
-    ∙ sym (numeral_none b c.requires (c.loop-i.invariant.2 ∙ digits_next b i c.loop-i-test.true ∙ rw (← c.is_digit-digit.ensures, c.if-digit.false)))
+    let i = c.loop-x.x-index in
+    let w = c.in_ok-checked_mul.field-0 + c.from.result in
+    let says = c.loop-x.invariant.says ∙ said_next b i (omega arith) c.loop-x.value w (omega (arith, c.in_ok-checked_mul.ensures, c.from.ensures)) in
+    c.from_residual-in_err-value.ensures ∙ sym (value_large b (drop (i + 1) b) w says (omega (arith, c.in_err-value.ensures)))
+
+pub loop-x-preserved : goal.loop-x-preserved
+loop-x-preserved c =
+    let b = c.args.b.now in
+    let i = c.loop-x.x-index in
+    let within : i < length b = omega arith in
+    let next : c.in_ok-value.value ≡ c.loop-x.value * 10 + (slice_index_or b i 0 - 48) = omega (arith, c.in_ok-checked_mul.ensures, c.in_ok-value.ensures, c.from.ensures) in
+    record {
+      small = omega (arith, c.in_ok-value.ensures);
+      digits = (digit_here b i within c.loop-x.invariant.digits).1;
+      says = c.loop-x.invariant.says ∙ said_next b i within c.loop-x.value c.in_ok-value.value next;
+    }
 
 pub returns : goal.returns
 returns c =
     let b = c.args.b.now in
-    let i = c.loop-i.i in
-    let inv = c.loop-i.invariant in
-    let says = inv.3 ∙ said_end b i c.loop-i.value c.loop-i-test.false in
-    rw (← says) (sym (numeral_small b c.requires (inv.2 ∙ digits_end b i c.loop-i-test.false) (omega (arith, says, inv.1))))
+    let says = c.loop-x.invariant.says ∙ said_end b c.loop-x.x-index c.loop-x.value (omega arith) in
+    sym (value_small _ c.loop-x.value says c.loop-x.invariant.small)

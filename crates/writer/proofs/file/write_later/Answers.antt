@@ -1,42 +1,46 @@
-use Rattle.std.proofs.Common.{arith, ◌≡◌, ℕ, ◌+◌, ◌-◌, ◌*◌, ◌≤◌, ◌<◌, cond, ltb, List, ◌++◌, length, take, drop, sym, ap, ◌∙◌, length-drop}
+use Rattle.std.proofs.Common.{arith, ◌≡◌, ℕ, ◌+◌, ◌-◌, ◌*◌, ◌≤◌, ◌<◌, min, List, ◌++◌, length, take, drop, refl, sym, ap, ◌∙◌, length-drop}
 use Rattle.std.proofs.Math.Seq.{length-sets}
-use Rattle.writer.specs.Made.{later_made, packed, blocks_for}
-use Rattle.writer.specs.Parts.{entries_from}
+use Rattle.writer.specs.Made.{later_made, packed}
+use Rattle.writer.specs.Parts.{entries_left}
 use Rattle.writer.proofs.Packing.{part_stored, share_taken, share_left, packed_step, share_length}
 use Rattle.writer.proofs.file.write_later.Goals as goal
 
--- the bytes of the block at hand
-room : (blocks done size : ℕ) → 512 * blocks ≤ size → done < blocks → 512 * done + 512 ≤ size
-room blocks done size h l = omega (arith, h, l)
+pub loop-k-init : goal.loop-k-init
+loop-k-init c =
+    let all : c.block_count-k-end.result - 0 ≡ c.block_count-k-end.result = omega arith in
+    record { form = c.requires.form; count = c.requires.count; long = refl; same = rw all }
 
-pub loop-done-preserved : goal.loop-done-preserved
-loop-done-preserved c =
-    let text = c.args.text.now in
-    let old = c.loop-done in
+pub later_block-requires-clause-some : goal.later_block-requires-clause-some
+later_block-requires-clause-some c = omega (arith, c.min-share.ensures, c.loop-k.invariant.count)
+
+-- the bytes of the block at hand
+room : (blocks k size : ℕ) → 512 * blocks ≤ size → k < blocks → 512 * k + 512 ≤ size
+room blocks k size h l = omega (arith, h, l)
+
+pub loop-k-preserved : goal.loop-k-preserved
+loop-k-preserved c =
+    let old = c.loop-k in
     let inv = old.invariant in
-    let es = entries_from text old.at in
-    let block = c.write_block-at in
-    let share : c.block_share-c.result ≡ cond (ltb (length es) 42) (length es) 42 = c.block_share-c.ensures ∙ rw inv.count in
-    let taken : take c.block_share-c.result es ≡ take 42 es = rw share (share_taken es) in
-    let left : drop c.block_share-c.result es ≡ drop 42 es = rw share (share_left es) in
-    let fits = room _ _ _ c.requires.3 c.loop-done-test.true in
-    let bytes = later_made (old.done + 1) (take 42 es) in
-    let wrote : block.new.b ≡ bytes = block.ensures.1 ∙ ap (later_made (old.done + 1)) taken in
-    let stored = ap (λ (l : List ℕ). take (512 * old.done) old.rest ++ (l ++ drop (512 * old.done + 512 - 512 * old.done) (drop (512 * old.done) old.rest))) wrote
-    ∙ part_stored old.rest bytes (512 * old.done) (512 * old.done + 512) (omega arith) (omega (arith, fits, inv.long)) (share_length (old.done + 1) es ∙ omega arith) in
+    let es = entries_left old.behind.now in
+    let made = c.later_block.ensures in
+    let share : c.min-share.result ≡ min (length es) 42 = c.min-share.ensures ∙ rw inv.count in
+    let taken : take c.min-share.result es ≡ take 42 es = rw share (share_taken es) in
+    let left : drop c.min-share.result es ≡ drop 42 es = rw share (share_left es) in
+    let fits : 512 * old.k + 512 ≤ length old.rest =
+    room c.block_count-k-end.result old.k (length old.rest) (rw (c.block_count-k-end.ensures, inv.long) c.requires.room) c.loop-k-test.true in
+    let bytes = later_made (old.k + 1) (take 42 es) in
+    let wrote : c.copy_from_slice.new.self ≡ bytes = c.copy_from_slice.ensures.after ∙ made.block ∙ ap (later_made (old.k + 1)) taken in
+    let stored = ap (λ (l : List ℕ). take (512 * old.k) old.rest ++ (l ++ drop (512 * old.k + 512 - 512 * old.k) (drop (512 * old.k) old.rest))) wrote
+    ∙ part_stored old.rest bytes (512 * old.k) (512 * old.k + 512) (omega arith) fits (share_length (old.k + 1) es ∙ omega arith) in
     record {
-      some = omega (arith, c.loop-done-test.true);
-      within = block.ensures.0.0;
-      long = rw stored (length-sets old.rest (512 * old.done) bytes) ∙ inv.long;
-      count = rw (block.ensures.0.1, length-drop, inv.count);
-      same = inv.same
-          ∙ packed_step old.rest old.done (blocks_for c.args.entries) es c.loop-done-test.true
-          ∙ rw (← stored, ← left, ← block.ensures.0.1);
+      form = made.form;
+      count = rw (made.left, length-drop, inv.count);
+      long = rw stored (length-sets old.rest (512 * old.k) bytes) ∙ inv.long;
+      same = inv.same ∙ packed_step old.rest old.k c.block_count-k-end.result es c.loop-k-test.true ∙ rw (← stored, ← left, ← made.left);
     }
 
 pub returns : goal.returns
 unfolding packed
 returns c =
-    let inv = c.loop-done.invariant in
-    let none : blocks_for c.args.entries - c.loop-done.done ≡ 0 = omega (arith, c.loop-done-test.false) in
-    sym (inv.same ∙ rw none)
+    let none : c.block_count-k-end.result - c.loop-k.k ≡ 0 = omega (arith, c.loop-k-test.false) in
+    rw (← c.block_count-k-end.ensures) (sym (c.loop-k.invariant.same ∙ rw none))

@@ -1,39 +1,54 @@
--- The number that refuses the text, then the room, then the file.
-use Rattle.std.proofs.Common.{arith}
-use Rattle.writer.proofs.Answers.{accepted_scan, written_refused, written_short, written_whole}
+-- What refuses the text, then the room, then the file.
+use Rattle.std.proofs.Common.{arith, ◌≡◌, ℕ, ◌-◌, List, length, take, drop, Ok, Err, refl, ap, ◌∙◌, length-drop}
+use Rattle.std.proofs.lemmas.Result.{err_from_is_err_and}
+use Rattle.std.proofs.Math.Seq.{take_all}
+use Rattle.writer.specs.Types.{TextRefusal}
+use Rattle.writer.specs.Parts.{scanned_as}
+use Rattle.writer.specs.Writer.{written_as}
+use Rattle.writer.proofs.Answers.{Accepted, accepted_scan, written_refused, written_short, written_whole}
 use Rattle.writer.proofs.file.write_text.Goals as goal
+use Rattle.writer.proofs.file.write_text.Goals.{In_ok-told}
 
-pub returns-then-number-ne0 : goal.returns-then-number-ne0
-returns-then-number-ne0 c =
-    written_refused c.args.text.now c.args.out.now _ c.scan-told.ensures c.if-number-ne0.true c.turn_away.ensures
+pub returns-in_err-told : goal.returns-in_err-told
+returns-in_err-told c =
+    let p = err_from_is_err_and c.from_residual.result c.from_residual.ensures.1 in
+    let told = written_refused c.args.text.now c.args.out.now c.in_err-told.field-0.0 c.in_err-told.ensures in
+    (ap written_as (p.1 ∙ ap (λ (e : TextRefusal). Err e) p.2) ∙ told.0, told.1)
 
 -- what is known of an accepted text
-pub overflow_add-blocks : goal.overflow_add-blocks
-overflow_add-blocks c =
-    let known = accepted_scan c.args.text.now c.scan-told.result c.scan-told.ensures c.if-number-ne0.false in
-    omega (arith, known.few)
+known : (c : In_ok-told) → Accepted c.args.text.now (scanned_as (Ok c.in_ok-told.told))
+known c = accepted_scan c.args.text.now (scanned_as (Ok c.in_ok-told.told)) c.in_ok-told.ensures refl
 
-pub overflow_mul-need : goal.overflow_mul-need
-overflow_mul-need c =
-    let known = accepted_scan c.args.text.now c.scan-told.result c.scan-told.ensures c.if-number-ne0.false in
-    omega (arith, known.few)
+rest : (text : List ℕ) (from : ℕ) → take (length text - from) (drop from text) ≡ drop from text
+rest text from = take_all (length text - from) (drop from text) (rw length-drop (omega arith))
 
-pub overflow_add-need : goal.overflow_add-need
-overflow_add-need c =
-    let known = accepted_scan c.args.text.now c.scan-told.result c.scan-told.ensures c.if-number-ne0.false in
-    omega (arith, known.few)
+pub overflow_mul-length : goal.overflow_mul-length
+overflow_mul-length c = omega (arith, c.block_count.ensures, (known ((goal.at.overflow_mul-length c).In_ok-told)).few)
 
-pub returns-then-out-need : goal.returns-then-out-need
-returns-then-out-need c =
-    let known = accepted_scan c.args.text.now c.scan-told.result c.scan-told.ensures c.if-number-ne0.false in
-    written_short c.args.text.now c.args.out.now _ known c.if-out-need.true c.turn_away-then-out-need.ensures
+pub overflow_add-length : goal.overflow_add-length
+overflow_add-length c = omega (arith, c.block_count.ensures, (known ((goal.at.overflow_add-length c).In_ok-told)).few)
+
+pub returns-then-out-length : goal.returns-then-out-length
+returns-then-out-length c =
+    let known = known ((goal.at.returns-then-out-length c).In_ok-told) in
+    let told = written_short c.args.text.now c.args.out.now _ known (rw (← c.block_count.ensures) c.if-out-length.true) in
+    (rw c.from.ensures told.0, told.1)
+
+pub slice_bounds-write_file-count : goal.slice_bounds-write_file-count
+slice_bounds-write_file-count c = (known ((goal.at.slice_bounds-write_file-count c).In_ok-told)).within
+
+pub slice_bounds-write_file-start : goal.slice_bounds-write_file-start
+slice_bounds-write_file-start c = (known ((goal.at.slice_bounds-write_file-start c).In_ok-told)).within
 
 pub write_file-requires : goal.write_file-requires
 write_file-requires c =
-    let known = accepted_scan c.args.text.now c.scan-told.result c.scan-told.ensures c.if-number-ne0.false in
-    (known.within, known.count, known.few, c.if-out-need.false)
+    let k = known ((goal.at.write_file-requires c).In_ok-told) in
+    let all = rest c.args.text.now c.in_ok-told.told.from in
+    record { form = rw all k.form; count = rw all k.count; few = k.few; room = rw (← c.block_count.ensures) c.if-out-length.false }
 
 pub returns : goal.returns
 returns c =
-    let known = accepted_scan c.args.text.now c.scan-told.result c.scan-told.ensures c.if-number-ne0.false in
-    written_whole c.args.text.now c.args.out.now _ known c.if-out-need.false c.write_file.ensures
+    let known = known ((goal.at.returns c).In_ok-told) in
+    let all = rest c.args.text.now c.in_ok-told.told.from in
+    let told = written_whole c.args.text.now c.args.out.now _ known (rw (← c.block_count.ensures) c.if-out-length.false) (rw (← all) c.write_file.ensures) in
+    (rw c.block_count.ensures told.0, told.1)

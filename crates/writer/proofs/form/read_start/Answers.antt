@@ -1,16 +1,15 @@
--- Two bytes at least, H and a space, and then the fields.
-use Rattle.std.proofs.Common.{eqb, get_or, sym, ◌∙◌}
-use Rattle.std.proofs.lemmas.Bool.{ne_eqb}
-use Rattle.std.proofs.Math.Bool.{and-false}
-use Rattle.writer.proofs.Asks.{head_none, no_gap}
+-- H and a space, and then the fields.
+use Rattle.std.proofs.Common.{sym, ◌∙◌}
+use Rattle.writer.proofs.Asks.{gap_no_head, letter_no_head}
+use Rattle.writer.proofs.Fields.{head_line}
 use Rattle.writer.proofs.form.read_start.Goals as goal
 
-pub returns-then-n-lt2 : goal.returns-then-n-lt2
-returns-then-n-lt2 c =
-    let line = c.args.line.now in
-    c.no_start.ensures
-    ∙ sym (head_none line (rw (ne_eqb (get_or line 1 0) 32 (no_gap line c.if-n-lt2.true), and-false (eqb (get_or line 0 0) 72))))
+pub returns-in_err-letter : goal.returns-in_err-letter
+returns-in_err-letter c = c.from_residual.ensures ∙ sym (gap_no_head c.args.line.now c.in_err-letter.ensures.none)
 
-pub returns-else-both : goal.returns-else-both
-returns-else-both c =
-    c.no_start-else-both.ensures ∙ sym (head_none c.args.line.now (sym c.both.ensures ∙ c.if-both.false))
+pub returns-then-letter-eq72 : goal.returns-then-letter-eq72
+returns-then-letter-eq72 c = rw (c.in_ok-letter.ensures.some, c.if-letter-eq72.true, head_line c.in_ok-letter.rest.now) c.read_fields.ensures
+
+pub returns-else-letter-eq72 : goal.returns-else-letter-eq72
+returns-else-letter-eq72 c =
+    rw c.in_ok-letter.ensures.some (sym (letter_no_head c.in_ok-letter.letter c.in_ok-letter.rest.now c.if-letter-eq72.false))

@@ -1,16 +1,21 @@
 -- The range, and then how many entries there are.
-use Rattle.std.proofs.lemmas.Bool.{eq-eqb, ne_eqb, le-leb, lt-leb}
-use Rattle.writer.specs.Parts.{judged}
+use Rattle.std.proofs.Common.{sym}
+use Rattle.std.proofs.lemmas.Result.{err_from_is_err_and}
+use Rattle.writer.proofs.Whole.{judged_out, judged_many, judged_few}
 use Rattle.writer.proofs.scan.judge.Goals as goal
 
-pub returns-then-few : goal.returns-then-few
-unfolding judged
-returns-then-few c = rw (eq-eqb _ _ c.if-ranged.true, le-leb _ _ c.if-few.true)
+pub returns-in_err-check_range : goal.returns-in_err-check_range
+returns-in_err-check_range c =
+    let read = c.args.read in
+    let p = err_from_is_err_and c.from_residual.result c.from_residual.ensures.1 in
+    rw (p.1, p.2) (judged_out read.opening read.from read.entries c.in_err-check_range.field-0.0 c.in_err-check_range.ensures)
 
-pub returns-then-ranged : goal.returns-then-ranged
-unfolding judged
-returns-then-ranged c = rw (eq-eqb _ _ c.if-ranged.true, lt-leb _ _ c.if-few.false) c.pass_over.ensures
+pub returns-then-read-gt5334 : goal.returns-then-read-gt5334
+returns-then-read-gt5334 c =
+    let read = c.args.read in
+    rw c.from.ensures (judged_many read.opening read.from read.entries (sym c.in_ok-check_range.ensures) c.if-read-gt5334.true)
 
 pub returns : goal.returns
-unfolding judged
-returns c = rw (ne_eqb _ _ c.if-ranged.false) c.pass_over-2.ensures
+returns c =
+    let read = c.args.read in
+    judged_few read.opening read.from read.entries (sym c.in_ok-check_range.ensures) c.if-read-gt5334.false

@@ -1,18 +1,43 @@
--- An entry is left, so the next line has its newline.
-use Rattle.std.proofs.Common.{arith, ◌-◌, ◌<◌, length, take, drop}
-use Rattle.writer.proofs.Asks.{line_entry_is}
-use Rattle.writer.proofs.Further.{entries_first, entries_newline}
+-- An entry is left, so the next line has its newline; and it is in the form.
+use Rattle.std.proofs.Common.{◌≡◌, ◌<◌, length, Some, refl, sym, ◌∙◌}
+use Rattle.std.proofs.lemmas.Option.{same_Some}
+use Rattle.text.specs.Lines.{newline}
+use Rattle.writer.specs.Form.{place_of, before, behind, entry_in}
+use Rattle.writer.proofs.Further.{split_next, line_next, line_read, entries_next, form_next}
 use Rattle.writer.proofs.Within.{entry_small}
 use Rattle.writer.proofs.scan.next_entry.Goals as goal
+use Rattle.writer.proofs.scan.next_entry.Goals.{After-read_line}
 
-pub returns : goal.returns
-returns c =
-    let a = c.args in
-    let text = a.text.now in
-    let end = c.place_from-end in
-    -- the newline of the next line
-    let within : end.result < length text = entries_newline text a.at end.result end.ensures.0 c.requires.1 in
-    let line = take (end.result - a.at) (drop a.at text) in
-    let first = entries_first text a.at end.result end.ensures.0 within in
-    let entry = line_entry_is line c.read_line-this.ensures in
-    (rw first entry, rw first, omega (arith, within), rw entry (entry_small line).seat)
+pub unwrap-requires : goal.unwrap-requires
+unwrap-requires c = split_next c.args.lines.now c.requires.some c.split_once.result c.split_once.ensures.none
+
+-- the line and what stands behind it, and what is read of the line
+here : (c : After-read_line)
+    → (place_of newline c.args.lines.now < length c.args.lines.now)
+    × (c.unwrap.result.0.now ≡ before newline c.args.lines.now) × (c.unwrap.result.1.now ≡ behind newline c.args.lines.now)
+here c = rw c.unwrap.ensures at c.split_once.ensures.some
+
+read : (c : After-read_line) → c.read_line.result ≡ Some (entry_in (before newline c.args.lines.now))
+read c =
+    let h = here c in
+    let line = before newline c.args.lines.now in
+    rw (c.read_line.ensures, h.1) (line_read line (line_next c.args.lines.now h.0 c.requires.form))
+
+pub unwrap-entry-requires : goal.unwrap-entry-requires
+unwrap-entry-requires c = rw (read c) refl
+
+pub returns-clause-entry : goal.returns-clause-entry
+returns-clause-entry c =
+    let h = here ((goal.at.returns-clause-entry c).After-read_line) in
+    let entry = same_Some _ _ (sym c.unwrap-entry.ensures ∙ read ((goal.at.returns-clause-entry c).After-read_line)) in
+    rw (entry, h.2) (entries_next c.args.lines.now h.0)
+
+pub returns-clause-form : goal.returns-clause-form
+returns-clause-form c =
+    let h = here ((goal.at.returns-clause-form c).After-read_line) in
+    rw h.2 (form_next c.args.lines.now h.0 c.requires.form)
+
+pub returns-clause-small : goal.returns-clause-small
+returns-clause-small c =
+    let entry = same_Some _ _ (sym c.unwrap-entry.ensures ∙ read ((goal.at.returns-clause-small c).After-read_line)) in
+    rw entry (entry_small (before newline c.args.lines.now)).seat
