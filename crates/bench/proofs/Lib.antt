@@ -1,3 +1,4 @@
 pub mod Turn
 pub mod Walk
 pub mod WholeRun
+pub mod Told

@@ -1,13 +1,14 @@
 -- One turn of the loop over a block's entries: what the loop keeps, and why a turn keeps it.
-use Prim.Native.Nat.{ℕ, ◌+◌, ◌-◌, ◌*◌, ◌≤◌, ◌<◌}
+use Prim.Native.Nat.{ℕ, ◌+◌, ◌-◌, ◌*◌, ◌/◌, ◌≤◌, ◌<◌}
 use mathlib.Core.Path.{◌≡◌, refl, sym, ap, ◌∙◌}
 use mathlib.Core.Bool.{Bool, true, false, cond, not}
-use mathlib.Core.List.{List, [], ◌∷◌, ◌++◌, map, map-append, append_assoc}
+use mathlib.Core.List.{List, [], ◌∷◌, ◌++◌, map, map-append, append_assoc, append-nil}
 use native.Mathlib.Omega.{arith}
 use lib.Dec.{eqb, ltb}
-use lib.ListN.{length, take, drop, length-append, length-drop, length-map, take-append-drop}
-use lib.Seq.{length-take-le}
-use borrow.Author.Tests.{ltb-true}
+use lib.ListN.{length, get_or, take, drop, length-append, length-drop, length-map, take-append-drop, drop_of_length-le}
+use lib.Seq.{length-take-le, take_at, drop_at, drop-drop}
+use borrow.Author.Tests.{ltb-true, le-leb}
+use Rattle.std.specs.Simd.{first_chunks}
 use Rattle.bench.specs.Types.{Process, Version, Tag, Place, Record, Outcome, Entry, Fields, Kind, Ask, Step, Stepped, State, Answer}
 use Rattle.step.specs.Steps.{same_tag, told_of, reached, own_steps}
 use Rattle.numbers.proofs.Range.{range_of}
@@ -20,11 +21,12 @@ use Rattle.machine.proofs.Soundness.{sure}
 use Rattle.machine.proofs.Writers.{record_same}
 use Rattle.machine.proofs.RunLaws.{ready_after, after_append, notes_append, count_append, notes_length, count_most}
 use Rattle.machine.proofs.PartsOfRun.{seat, reach, played_by_parts, seat_within, reach_within}
-use Rattle.schedule.specs.Direct.{entry_at, fields_at, part_entries}
+use Rattle.schedule.specs.Direct.{entry_at, fields_of, fields_at, part_entries}
+use Rattle.schedule.proofs.Laws.{chunk_read}
 use Rattle.schedule.proofs.Entries.{part_more, part_count}
 use Rattle.run_log.specs.Log.{laid, record_of, records_of}
 use Rattle.run_log.specs.declared.Note as log
-use Rattle.run_log.proofs.Laws.{record_length, records_length, records_more, grown}
+use Rattle.run_log.proofs.Laws.{record_length, records_length, records_more, laid_fits}
 use Rattle.bench.specs.Play.{record_from}
 use Rattle.bench.specs.Bench.{in_log}
 
@@ -113,6 +115,26 @@ module _ (st : State) (e : Entry) (h : Ready st) where
 abbrev pub asked : Fields → Entry
 asked e = record { process = record { 0 = e.process }; kind = kind_by e.kind e.value }
 
+-- Twelve bytes laid in the next twelve of the log: they stand behind those so far, and what lies past them stays.
+grown : (done bytes part now left : List ℕ) (at : ℕ) → length done ≡ at → length bytes ≡ 12 → at + 12 ≤ length part → now ≡ done ++ drop at part
+    → left ≡ laid bytes (take (at + 12 - at) (drop at now))
+    → take at now ++ (left ++ drop (at + 12 - at) (drop at now)) ≡ (done ++ bytes) ++ drop (at + length bytes) part
+grown done bytes part now left at e size fits so_far lays =
+    let width : at + 12 - at ≡ length bytes = omega (arith, size) in
+    let there : length (take (length bytes) (drop at part)) ≡ length bytes =
+    length-take-le (length bytes) (drop at part) (rw length-drop (omega (arith, size, fits))) in
+    let full : laid bytes (take (length bytes) (drop at part)) ≡ bytes =
+    laid_fits bytes (take (length bytes) (drop at part)) (omega (arith, there))
+    ∙ ap (λ (xs : List ℕ). bytes ++ xs) (drop_of_length-le (take (length bytes) (drop at part)) (omega (arith, there)))
+    ∙ append-nil bytes in
+    rw (lays, width, so_far, take_at done (drop at part) at e, drop_at done (drop at part) at e, full, drop-drop, append_assoc)
+
+-- the fields of chunk j of a part are those of its entry j
+pub chunk_fields : (part : List ℕ) (cs : List (List ℕ)) (j : ℕ) (d : List ℕ) → cs ≡ first_chunks 12 (length part / 12) part → j < length part / 12
+    → fields_of (get_or cs j d) ≡ fields_at part j
+unfolding fields_at
+chunk_fields part cs j d e l = rw (chunk_read 12 part cs j d e l, le-leb (12 * j + 12) (length part) (omega (arith, l)))
+
 -- What the loop over a block's entries keeps. The block began at entry i₁ of the file, with this state, count and log; after j turns all three
 -- are those of the run of the block's first j entries from there.
 pub record Turn (part rest₁ : List ℕ) (end i₁ : ℕ) (st₁ : State) (changes₁ : Version) (rest : List ℕ) (st : State) (changes : Version) (i j : ℕ) : Type 0 where
@@ -187,8 +209,8 @@ module _ {part rest₁ : List ℕ} {end i₁ : ℕ} {st₁ : State} {changes₁ 
       → (m : Stepped) → m ≡ played_parts st.n st.s (record { 0 = e.process }) st.x own (row_at st q.0) (kind_by e.kind e.value)
       → (note : log.Note) → note ≡ record_from e.process ahead m.outcome m.x m.own.kept
       → (changes' : Version) → changes'.0 ≡ changes.0 + cond (not (same_tag st.x m.x)) 1 0
-      → (back : List ℕ) → back ≡ laid (record_of note) (take (length rest - 12 * i) (drop (12 * i) rest))
-      → Turn part rest₁ end i₁ st₁ changes₁ (take (12 * i) rest ++ (back ++ drop (length rest - 12 * i) (drop (12 * i) rest))) (with_entry st a q m) changes' (i + 1) (j + 1)
+      → (back : List ℕ) → back ≡ laid (record_of note) (take (12 * i + 12 - 12 * i) (drop (12 * i) rest))
+      → Turn part rest₁ end i₁ st₁ changes₁ (take (12 * i) rest ++ (back ++ drop (12 * i + 12 - 12 * i) (drop (12 * i) rest))) (with_entry st a q m) changes' (i + 1) (j + 1)
   turn_next l e is a at own found ahead counts q row m goes note says changes' total back lays =
       record {
         ready = h.ready;
@@ -201,7 +223,7 @@ module _ {part rest₁ : List ℕ} {end i₁ : ℕ} {st₁ : State} {changes₁ 
         state = rw (left_is, row_is, seat_is) (sym (now_after ∙ state_left st (asked e) ready_now));
         count = omega (arith, total, h.count, more_changes);
         log =
-            grown so_far (record_of note) rest₁ rest back (12 * i) written_so_far (omega (arith, record_length note, h.room, h.place)) h.log lays
+            grown so_far (record_of note) rest₁ rest back (12 * i) written_so_far (record_length note) (omega (arith, h.room, h.place)) h.log lays
             ∙ rw (record_length note, place, append_assoc (take (12 * i₁) rest₁) (records_of (map in_log (notes st₁ (part_entries part j)))) (record_of note), more);
       }
     where

@@ -1,3 +1,4 @@
 pub mod Types
+pub mod Told
 pub mod Bench
 pub mod Play

@@ -18,4 +18,4 @@ pub use Rattle.schedule.specs.declared.Fields.{Fields}
 pub use Rattle.schedule.specs.Reading.{Reading, Refused, Accepted}
 pub use Rattle.run_log.specs.declared.Note.{Note}
 pub use Rattle.bench.specs.declared.Played.{Played}
-pub use Rattle.bench.specs.declared.Ran.{Ran}
+pub use Rattle.bench.specs.Told.{Ran}

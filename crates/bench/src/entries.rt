@@ -11,7 +11,7 @@ use machine::State;
 use machine::parts::{play_coded, seat_of, steps_ahead};
 use numbers::Process;
 use run_log::write::write_record;
-use schedule::{block_of, fields_at, used_entries};
+use schedule::{block_of, read_fields, used_entries};
 use step::Parts;
 
 // Plays all entries of an accepted file and writes their records into the front of the rest of the log. Both loops stand in one function,
@@ -31,9 +31,8 @@ pub(crate) fn play_entries(file: &[u8], rest: &mut [u8], from: Played) -> Played
     } = state;
     let mut i = 0;
     for k in 1..file.len() / 512 {
-        let part = used_entries(block_of(file, k));
-        for j in 0..part.len() / 12 {
-            let entry = fields_at(part, j);
+        for bytes in used_entries(block_of(file, k)).as_chunks().0 {
+            let entry = read_fields(bytes);
             let process = Process(entry.process as usize);
             let seat = seat_of(n, process);
             let own = records[seat.0].fresh();
@@ -46,7 +45,7 @@ pub(crate) fn play_entries(file: &[u8], rest: &mut [u8], from: Played) -> Played
             rows[reached.0] = left.row;
             records[seat.0] = left.own;
             let note = note_of(entry.process, ahead, left.outcome, left.x, left.own.kept);
-            write_record(&mut rest[12 * i..], note);
+            write_record(&mut rest[12 * i..12 * i + 12], note);
             changes = count(changes, x, left.x);
             x = left.x;
             i += 1;

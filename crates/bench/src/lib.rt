@@ -3,18 +3,16 @@
 
 use machine::State;
 use numbers::Version;
+use schedule::FileRefusal;
 
 mod entries;
 pub mod note;
 pub mod whole;
 
-// What a run returns: 0 or what turned the file away, in which block, the place of a stray byte or 0, and the state after the last entry
-// (zeros where the file was turned away).
+// What a run returns: whether the file was turned away, and the state after the last entry (zeros where it was).
 #[derive(Clone, Copy)]
 pub struct Ran {
-    pub number: usize,
-    pub block: usize,
-    pub place: usize,
+    pub refused: Result<(), FileRefusal>,
     pub state: State,
 }
 

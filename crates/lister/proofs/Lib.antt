@@ -3,3 +3,4 @@ pub mod Pieces
 pub mod Takers
 pub mod Answers
 pub mod Undone
+pub mod Told

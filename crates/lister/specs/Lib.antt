@@ -1,4 +1,5 @@
 pub mod Types
+pub mod Told
 pub mod Lister
 pub mod Undone
 pub mod Parts

@@ -6,7 +6,7 @@ ghost use Rattle.writer.specs.Made.{entry_line, entry_lines, start_line, listing
 ghost use Rattle.lister.specs.Parts.{plain_line, store_line};
 
 use crate::taker::Taker;
-use schedule::{block_of, entry_at, used_entries};
+use schedule::{Start, block_of, entry_at, used_entries};
 use step::{Entry, Kind, Request};
 
 // `L p`, `V p` or `T p`.
@@ -44,14 +44,14 @@ fn put_entry<T: Taker>(to: &mut T, entry: Entry)
 }
 
 // `H N S V`.
-fn put_start<T: Taker>(to: &mut T, n: u8, s: u64, v: u64)
-    requires { T.fits to.old (length (start_line n s v)) }
-    ensures { T.takes to.old (start_line n s v) to.new }
+fn put_start<T: Taker>(to: &mut T, start: Start)
+    requires { T.fits to.old (length (start_line start.n start.s start.v)) }
+    ensures { T.takes to.old (start_line start.n start.s start.v) to.new }
 {
     to.letter(b'H');
-    to.number(u64::from(n), b' ');
-    to.number(s, b' ');
-    to.number(v, b'\n');
+    to.number(u64::from(start.n), b' ');
+    to.number(start.s, b' ');
+    to.number(start.v, b'\n');
 }
 
 // The lines of a part's entries.
@@ -75,10 +75,10 @@ fn put_entries<T: Taker>(to: &mut T, file: &[u8])
 }
 
 // The text of an accepted file whose start this is.
-pub(crate) fn put_text<T: Taker>(to: &mut T, file: &[u8], n: u8, s: u64, v: u64)
-    requires { (is_accepted (reading file.now) ≡ true) × (T.fits to.old (length (listing file.now n s v))) }
-    ensures { T.takes to.old (listing file.now n s v) to.new }
+pub(crate) fn put_text<T: Taker>(to: &mut T, file: &[u8], start: Start)
+    requires { (is_accepted (reading file.now) ≡ true) × (T.fits to.old (length (listing file.now start.n start.s start.v))) }
+    ensures { T.takes to.old (listing file.now start.n start.s start.v) to.new }
 {
-    put_start(to, n, s, v);
+    put_start(to, start);
     put_entries(to, file);
 }

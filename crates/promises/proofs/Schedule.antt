@@ -12,6 +12,7 @@ use Rattle.schedule.specs.contracts.later.read_block
 use Rattle.schedule.specs.contracts.later.used_entries
 use Rattle.schedule.specs.contracts.later.entries_of
 use Rattle.schedule.specs.contracts.later.entry_at
+use Rattle.schedule.specs.contracts.later.read_fields
 use Rattle.schedule.specs.contracts.later.fields_at
 
 module _ {M : Type 1} where
@@ -38,6 +39,9 @@ module _ {M : Type 1} where
 
   pub entry_at_determined : Determined M entry_at.ended (λ 𝓤. entry_at.clauses {𝓤 = 𝓤}) (λ 𝓤. entry_at.spec {𝓤 = 𝓤})
   entry_at_determined = (λ 𝓤 𝓛 mem run. refl, λ κs a k l. (same_result_too k l k.met l.met, refl))
+
+  pub read_fields_determined : Determined M read_fields.ended (λ 𝓤. read_fields.clauses {𝓤 = 𝓤}) (λ 𝓤. read_fields.spec {𝓤 = 𝓤})
+  read_fields_determined = (λ 𝓤 𝓛 mem run. refl, λ κs a k l. (same_result k l k.met l.met, refl))
 
   pub fields_at_determined : Determined M fields_at.ended (λ 𝓤. fields_at.clauses {𝓤 = 𝓤}) (λ 𝓤. fields_at.spec {𝓤 = 𝓤})
   fields_at_determined = (λ 𝓤 𝓛 mem run. refl, λ κs a k l. (same_result k l k.met l.met, refl))

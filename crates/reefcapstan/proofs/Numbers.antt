@@ -12,7 +12,7 @@ use Rattle.schedule.specs.File.{reading}
 use Rattle.schedule.specs.Reading.{Reading, Refused, Accepted}
 use Rattle.schedule.proofs.Low.{Low, reading_low}
 use Rattle.run_log.specs.Log.{log_length}
-use Rattle.bench.specs.declared.Ran.{Ran}
+use Rattle.bench.specs.Told.{Ran}
 use Rattle.bench.specs.Bench.{ran_by, ran_of, last_state, ran_not}
 use Rattle.reefcapstan.specs.Door.{line_detail}
 

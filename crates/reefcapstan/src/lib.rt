@@ -1,7 +1,8 @@
 // The door for C: every function that crate `reefcapstan_c` exports, thin over the crates below, and nothing else.
 #![tactic(auto)]
 
-ghost use Rattle.std.specs.Prelude.{◌≡◌, cond, ◌≤◌, ◌<◌, eqb};
+ghost use Rattle.std.specs.Prelude.{◌≡◌, cond, ◌≤◌, eqb};
+ghost use Rattle.numbers.specs.Refusals.{refusal_number};
 ghost use Rattle.bench.specs.Bench.{log_after};
 ghost use Rattle.writer.specs.Writer.{written_in};
 ghost use Rattle.lister.specs.Lister.{listed_in};
@@ -9,22 +10,25 @@ ghost use Rattle.reefcapstan.specs.Door.{c_refusal, line_detail, c_number, c_wri
 
 use bench::whole::run;
 use lister::list_file;
+use schedule::FileRefusal;
 use writer::write_text;
 
 // What a refused file gives: number + 256 times block + 65,536 times place.
-fn refusal(number: usize, block: usize, place: usize) -> u64
-    requires { (number ≤ 27) × (block ≤ 127) × (place ≤ 509) }
-    ensures { (result ≡ c_refusal number block place) × (result < 4294967296) }
+fn refusal(e: FileRefusal) -> u32
+    requires { (e.block ≤ 127) × (e.place ≤ 509) }
+    ensures { result ≡ c_refusal (refusal_number e.refusal) e.block e.place }
 {
-    (number + 256 * block + 65536 * place) as u64
+    u32::from(e.refusal.number()) + 256 * e.block as u32 + 65536 * e.place as u32
 }
 
 // Plays a file: 0, or what a refused file gives.
 pub fn reefcapstan_run(file: &[u8], log: &mut [u8]) -> u32
     ensures { (result ≡ c_number file.now log.old) × (log.new ≡ log_after file.now log.old) }
 {
-    let ran = run(file, log);
-    refusal(ran.number, ran.block, ran.place) as u32
+    match run(file, log).refused {
+        Ok(()) => 0,
+        Err(e) => refusal(e),
+    }
 }
 
 // A line's number in the 56 bits that are left for it.
@@ -55,12 +59,8 @@ pub fn reefcapstan_write(text: &[u8], out: &mut [u8]) -> u64
 pub fn reefcapstan_list(file: &[u8], out: &mut [u8]) -> u64
     ensures { (result ≡ c_listed file.now out.old) × (out.new ≡ listed_in file.now out.old) }
 {
-    let listed = list_file(file, out);
-    let number = listed.number;
-    let block = listed.block;
-    let place = listed.place;
-    let length = listed.length as u64;
-    let done = 256 * length;
-    let refused = refusal(number, block, place);
-    by_number(number, done, refused)
+    match list_file(file, out) {
+        Ok(length) => 256 * length as u64,
+        Err(e) => u64::from(refusal(e)),
+    }
 }

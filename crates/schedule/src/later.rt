@@ -119,7 +119,7 @@ fn no_entry() -> Entry
 }
 
 // What an entry's twelve bytes say, with no test of the kind.
-fn fields(e: &[u8; 12]) -> Fields
+pub fn read_fields(e: &[u8; 12]) -> Fields
     ensures { result ≡ fields_of e.now }
 {
     Fields {
@@ -175,7 +175,7 @@ pub fn fields_at(part: &[u8], j: usize) -> Fields
     ensures { result ≡ fields_at part.now j }
 {
     match part.as_chunks::<12>().0.get(j) {
-        Some(e) => fields(e),
+        Some(e) => read_fields(e),
         None => no_fields(),
     }
 }

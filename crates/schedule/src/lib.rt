@@ -11,7 +11,7 @@ pub mod later;
 pub use block0::read_first;
 pub use check::check_of;
 pub use file::{block_of, read_file};
-pub use later::{entries_of, entry_at, fields_at, read_block, used_entries};
+pub use later::{entries_of, entry_at, fields_at, read_block, read_fields, used_entries};
 use numbers::Refusal;
 
 // What block 0 says: N, S and V.

@@ -9,20 +9,20 @@ use Rattle.lister.proofs.listing.list_accepted.Goals as goal
 pub put_text-requires : goal.put_text-requires
 put_text-requires c =
     let a = c.args in
-    (rw c.requires, omega (arith, text_most a.file.now a.n a.s a.v a.entries c.requires))
+    (rw c.requires, omega (arith, text_most a.file.now a.accepted.start.n a.accepted.start.s a.accepted.start.v a.accepted.entries c.requires))
 
 pub lay_text-requires : goal.lay_text-requires
 lay_text-requires c = (rw c.requires, omega (arith, c.put_text.ensures))
 
 pub returns-then-out-need : goal.returns-then-out-need
 returns-then-out-need c =
-    let text = listing c.args.file.now c.args.n c.args.s c.args.v in
+    let text = listing c.args.file.now c.args.accepted.start.n c.args.accepted.start.s c.args.accepted.start.v in
     let short : length c.args.out.now < length text = omega (arith, c.put_text.ensures) in
     rw (lt-leb (length text) (length c.args.out.now) short) (refl, sym (laid_short text c.args.out.now short))
 
 pub returns : goal.returns
 returns c =
-    let text = listing c.args.file.now c.args.n c.args.s c.args.v in
+    let text = listing c.args.file.now c.args.accepted.start.n c.args.accepted.start.s c.args.accepted.start.v in
     let size : c.put_text.new.to.bytes ≡ length text = omega (arith, c.put_text.ensures) in
     let fits : length text ≤ length c.args.out.now = omega arith in
     rw (le-leb (length text) (length c.args.out.now) fits, size) (refl, c.lay_text.ensures ∙ stored text c.args.out.now fits)

@@ -11,4 +11,4 @@ returns-in-Some c =
     let l : c.args.j < length p / 12 = omega (arith, c.in-Some.ensures.lookup.3.0, c.as_chunks.ensures.front_len) in
     let at : c.in-Some.e.now ≡ take 12 (drop (12 * c.args.j) p) =
     c.in-Some.ensures.lookup.1 ∙ chunk_read 12 p _ c.args.j _ c.as_chunks.ensures.front l in
-    rw (le-leb (12 * c.args.j + 12) (length p) (omega arith)) (c.fields.ensures ∙ ap fields_of at)
+    rw (le-leb (12 * c.args.j + 12) (length p) (omega arith)) (c.read_fields.ensures ∙ ap fields_of at)
