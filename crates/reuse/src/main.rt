@@ -23,11 +23,9 @@ fn play(input: &mut impl Read, output: &mut impl Write) -> Result<(), Trouble> {
     let mut text = zeros::<TEXT_ROOM>();
     let mut log = zeros::<LOG_ROOM>();
     let n = read_whole(input, &mut text)?;
-    let ran = play_text(&text[..n], &mut log);
-    if ran.number == 0 {
-        write_log(output, &log)?;
-    } else {
-        write_text_refusal(output, ran.number, ran.line)?;
+    match play_text(&text[..n], &mut log) {
+        Ok(_) => write_log(output, &log)?,
+        Err(e) => write_text_refusal(output, usize::from(e.refusal.number()), e.line)?,
     }
     Ok(())
 }

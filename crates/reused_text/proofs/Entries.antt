@@ -9,10 +9,7 @@ use borrow.Author.Tests.{ltb-true}
 use lib.Dec.{ltb}
 use lib.ListN.{length, take, drop, length-map}
 use lib.Seq.{set-get_or}
-use Rattle.text.specs.Lines.{newline}
 use Rattle.writer.specs.Form as p1
-use Rattle.writer.specs.Form.{place_of}
-use Rattle.writer.proofs.Further.{entries_first, entries_newline}
 use Rattle.writer.proofs.Within.{entry_small}
 use Rattle.reused.specs.Steps.{same_triple, all_equal, stored_of, told_of, step_at, idle, goes_on, answered, at, first_place}
 use Rattle.reused.specs.State.{row_at, sound_point, sound_kept}
@@ -24,18 +21,16 @@ use Rattle.reused.proofs.Soundness.{sure, sizes}
 use Rattle.reused.proofs.RunLaws.{played_ready}
 use Rattle.reused.proofs.PartsOfRun.{parts_sound, called_by_parts}
 use Rattle.reused_text.specs.Types.{Process, Triple, Option, Own, None, Some, Place, Idle, Load1, Load2, Load3, Store1, Store2, Check1, Kind, Ask, Step, Outcome, Stepped, State, Entry, Note, NotDone, Yes, No, NoProcess, CallOpen, Taken, Requested, Answer, Announced}
-use Rattle.reused_text.specs.Form.{entry_in}
-use Rattle.reused_text.specs.Parts.{bit_entries_from}
+use Rattle.reused_text.specs.Form.{line_fine, entry_in}
+use Rattle.reused_text.specs.Parts.{bit_entry_in, bit_line_of}
 use Rattle.reused_text.specs.Played.{bit_number, in_log, seat_of, record_from}
 
--- the next entry of a text, behind which the others stand
-module _ (text : List ℕ) (place end : ℕ) (e : end ≡ place + place_of newline (drop place text)) (h : 0 < length (bit_entries_from text place)) where
-  pub entry_ended : end < length text
-  entry_ended = entries_newline text place end e (rw (length-map) at h)
+-- what is read of a line that is in the form
+pub bit_line_read : (line : List ℕ) → line_fine line ≡ true → bit_line_of line ≡ Some (bit_entry_in line)
+unfolding bit_line_of
+bit_line_read line h = rw h
 
-  pub entry_next : bit_entries_from text place ≡ entry_in (p1.entry_in (take (end - place) (drop place text))) ∷ bit_entries_from text (end + 1)
-  entry_next = ap (map entry_in) (entries_first text place end e entry_ended)
-
+-- the process of an entry fits its byte
 pub entry_seat : (line : List ℕ) → (entry_in (p1.entry_in line)).process.0 < 256
 entry_seat line = (entry_small line).seat
 

@@ -9,34 +9,33 @@ use native.Mathlib.Nat.{mul-le-mul}
 use native.Mathlib.Omega.{arith}
 use borrow.Author.Tests.{le-leb, lt-leb, leb-true, ne_eqb, eqb-true}
 use lib.Dec.{eqb, leb}
-use lib.ListN.{length}
+use lib.ListN.{length, length-map}
+use Rattle.std.specs.Prelude.{Ok, Err}
+use Rattle.numbers.specs.declared.Refusal.{Refusal}
+use Rattle.numbers.specs.Refusals.{refusal_number}
+use Rattle.numbers.proofs.Refusals.{refused}
 use Rattle.numbers.specs.Numbers.{in_range_n, number_unless, first_found}
 use Rattle.numbers.proofs.First.{found_both, unless_fine}
-use Rattle.text.specs.Decimal.{said}
 use Rattle.text.specs.Lines.{newline}
-use Rattle.writer.specs.Form.{place_of, is_numeral, opens_with, field_n, line_one}
-use Rattle.writer.specs.Parts.{numeral_of}
+use Rattle.writer.specs.declared.scan.Read.{Read}
+use Rattle.writer.specs.Form as p1
+use Rattle.writer.specs.Form.{place_of, line_one}
+use Rattle.writer.specs.Parts.{below_64, read_by}
+use Rattle.writer.proofs.Whole.{read_ok, read_err}
 use Rattle.reused.specs.Circle.{interval_of, in_range_m, sizes_number}
 use Rattle.reused.proofs.Soundness.{sizes_fine, sizes_of_lem, interval_least}
-use Rattle.reused_text.specs.Types.{Scanned}
-use Rattle.reused_text.specs.Form.{field_m, head_fine, outside, text_n, text_m, text_entries, text_number}
-use Rattle.reused_text.specs.Parts.{sizes_of, passed_over, judged, within, scanned_of}
+use Rattle.reused_text.specs.Types.{Scanned, Sizes}
+use Rattle.reused_text.specs.Form.{head_fine, line_fine, outside, text_n, text_m, text_entries, text_number}
+use Rattle.reused_text.specs.Parts.{sizes_in, passed_over, judged, within, scanned_of}
 
 -- a number of 2^64 or more, or 0 in its place: neither is an N or an M
-abbrev low : ℕ → ℕ
-low x = cond (leb x 18446744073709551615) x 0
-
-low_is : (l : List ℕ) → is_numeral l ≡ true → (numeral_of l).value ≡ low (said l)
-unfolding numeral_of
-low_is l h = rw h
-
-low_same : (x : ℕ) → x ≤ 4294967296 → low x ≡ x
+low_same : (x : ℕ) → x ≤ 4294967296 → below_64 x ≡ x
 low_same x h = rw (le-leb x 18446744073709551615 (omega (arith, h)))
 
-low_n : (x m : ℕ) → sizes_number (low x) m ≡ sizes_number x m
+low_n : (x m : ℕ) → sizes_number (below_64 x) m ≡ sizes_number x m
 low_n x m = go (dec_lt x 18446744073709551616)
   where
-    go : Dec (x < 18446744073709551616) → sizes_number (low x) m ≡ sizes_number x m
+    go : Dec (x < 18446744073709551616) → sizes_number (below_64 x) m ≡ sizes_number x m
     go (yes h) = rw (le-leb x 18446744073709551615 (omega (arith, h)))
     go (no h) = rw (lt-leb x 18446744073709551615 (omega (arith, h)), lt-leb x 16 (omega (arith, h)), and-false (leb 1 x))
 
@@ -47,7 +46,7 @@ none_m n e =
     let least : 1 * 3 ≤ (2 * n + 2) * interval_of n = mul-le-mul {n₁ = 1} {m₁ = 3} {n₂ = 2 * n + 2} {m₂ = interval_of n} (omega arith) (interval_least n some) in
     rw (lt-leb ((2 * n + 2) * interval_of n) 0 (omega (arith, least)))
 
-low_m_lem : (n y : ℕ) → sizes_number n (low y) ≡ sizes_number n y
+low_m_lem : (n y : ℕ) → sizes_number n (below_64 y) ≡ sizes_number n y
 low_m_lem n y = go (dec_lt y 18446744073709551616)
   where
     large : (t : Bool) → in_range_n n ≡ t → in_range_m n y ≡ false
@@ -55,14 +54,14 @@ low_m_lem n y = go (dec_lt y 18446744073709551616)
     large false e f = refl
     large true e f = rw (f, none_m n e)
 
-    go : Dec (y < 18446744073709551616) → sizes_number n (low y) ≡ sizes_number n y
+    go : Dec (y < 18446744073709551616) → sizes_number n (below_64 y) ≡ sizes_number n y
     go (yes h) = rw (le-leb y 18446744073709551615 (omega (arith, h)))
     go (no h) =
         let f : in_range_m n y ≡ false = rw (lt-leb y 4294967296 (omega (arith, h)), and-false (leb ((2 * n + 2) * interval_of n) y)) in
         rw (lt-leb y 18446744073709551615 (omega (arith, h))) (large (in_range_n n) refl f)
 
 module _ (text : List ℕ) where
-  pub scanned_outside : (line : ℕ) → outside text ≡ line → (line ≡ 0 → ⊥) → scanned_of text ≡ passed_over 25 line
+  scanned_outside : (line : ℕ) → outside text ≡ line → (line ≡ 0 → ⊥) → scanned_of text ≡ passed_over 25 line
   unfolding scanned_of text_number
   scanned_outside line e h = rw (e, ne_eqb line 0 h)
 
@@ -99,37 +98,36 @@ module _ (text : List ℕ) where
         leb-true (length (text_entries text)) 4294967295 (unless_fine few 26 (omega arith) two.1),
       )
 
-  -- all lines are in the form
-  module _ (e : outside text ≡ 0) (h : head_fine (line_one text) ≡ true) where
+  -- its first line outside the form
+  pub scanned_form : (line : ℕ) → Err line ≡ read_by head_fine sizes_in line_fine text → passed_over 25 line ≡ scanned_of text
+  scanned_form line e =
+      let p = read_err head_fine sizes_in line_fine text line e in
+      sym (scanned_outside line p.0 p.1)
+
+  -- or none
+  module _ (e : outside text ≡ 0) where
     abbrev n : ℕ
-    n = (numeral_of (field_n (line_one text))).value
+    n = below_64 (text_n text)
 
     abbrev m : ℕ
-    m = (numeral_of (field_m (line_one text))).value
-
-    numerals : (is_numeral (field_n (line_one text)) ≡ true) × (is_numeral (field_m (line_one text)) ≡ true)
-    unfolding head_fine
-    numerals =
-        let a = is_numeral (field_n (line_one text)) in
-        let b = is_numeral (field_m (line_one text)) in
-        (and-eq-true_iff a b).0 ((and-eq-true_iff (opens_with 72 (line_one text)) (a && b)).0 h).1
+    m = below_64 (text_m text)
 
     sizes_same : sizes_number n m ≡ sizes_number (text_n text) (text_m text)
-    sizes_same = rw (low_is (field_n (line_one text)) numerals.0, low_is (field_m (line_one text)) numerals.1) (low_n (text_n text) (low (text_m text)) ∙ low_m_lem (text_n text) (text_m text))
+    sizes_same = low_n (text_n text) m ∙ low_m_lem (text_n text) (text_m text)
 
     in_range_lem : sizes_number (text_n text) (text_m text) ≡ 0 → (n ≡ text_n text) × (m ≡ text_m text)
     in_range_lem z =
         let s = sizes_of_lem (text_n text) (text_m text) (sizes_fine (text_n text) (text_m text) z) in
-        (low_is (field_n (line_one text)) numerals.0 ∙ low_same (text_n text) (omega (arith, s.few)), low_is (field_m (line_one text)) numerals.1 ∙ low_same (text_m text) s.high)
+        (low_same (text_n text) (omega (arith, s.few)), low_same (text_m text) s.high)
 
     abbrev which : ℕ → ℕ → ℕ → Scanned
     which number a b =
         cond (eqb number 0) (record { number = 0; line = 0; from = place_of newline text + 1; entries = length (text_entries text); n = a; m = b })
         (passed_over number 0)
 
-    pub scanned_judged : scanned_of text ≡ judged (sizes_of (line_one text)) (place_of newline text + 1) (length (text_entries text))
-    unfolding scanned_of text_number judged sizes_of
-    scanned_judged = rw (e, h, sizes_same) (go (dec_lt 0 number))
+    judged_text : judged (sizes_in (line_one text)) (place_of newline text + 1) (length (text_entries text)) ≡ scanned_of text
+    unfolding scanned_of text_number judged
+    judged_text = rw (e, sizes_same) (go (dec_lt 0 number))
       where
         few : ℕ
         few = number_unless (leb (length (text_entries text)) 4294967295) 26
@@ -137,9 +135,33 @@ module _ (text : List ℕ) where
         number : ℕ
         number = first_found (sizes_number (text_n text) (text_m text)) few
 
-        go : Dec (0 < number) → which number (text_n text) (text_m text) ≡ which number n m
+        go : Dec (0 < number) → which number n m ≡ which number (text_n text) (text_m text)
         go (yes l) = rw (ne_eqb number 0 (λ q. omega (arith, l, q)))
         go (no l) =
             let z : number ≡ 0 = omega (arith, l) in
             let same = in_range_lem (found_both (sizes_number (text_n text) (text_m text)) few z).0 in
-            ap (λ (a : ℕ). which number a (text_m text)) (sym same.0) ∙ ap (which number n) (sym same.1)
+            ap (λ (a : ℕ). which number a m) same.0 ∙ ap (which number (text_n text)) same.1
+
+  pub scanned_judged : (read : Read Sizes) → Ok read ≡ read_by head_fine sizes_in line_fine text
+      → judged read.opening read.from read.entries ≡ scanned_of text
+  scanned_judged read e =
+      let p = read_ok head_fine sizes_in line_fine text read e in
+      let count : length (p1.text_entries text) ≡ length (text_entries text) = rw length-map in
+      rw (p.1, count) (judged_text p.0)
+
+-- what is judged: sizes out of range, too many entries, and neither
+module _ (s : Sizes) (from entries : ℕ) where
+  pub judged_out : (e : Refusal) → refusal_number e ≡ sizes_number s.n s.m → passed_over (refusal_number e) 0 ≡ judged s from entries
+  unfolding judged
+  judged_out e h =
+      let not : refusal_number e ≡ 0 → ⊥ = λ q. omega (arith, q, refused e) in
+      rw (← h, ne_eqb (refusal_number e) 0 not, ne_eqb (refusal_number e) 0 not)
+
+  pub judged_many : sizes_number s.n s.m ≡ 0 → 4294967295 < entries → passed_over 26 0 ≡ judged s from entries
+  unfolding judged
+  judged_many h k = rw (h, lt-leb entries 4294967295 k)
+
+  pub judged_few : sizes_number s.n s.m ≡ 0 → entries ≤ 4294967295
+      → record { number = 0; line = 0; from = from; entries = entries; n = s.n; m = s.m } ≡ judged s from entries
+  unfolding judged
+  judged_few h k = rw (h, le-leb entries 4294967295 k)

@@ -18,7 +18,9 @@ use Rattle.reused.specs.Frame.{Ready}
 use Rattle.reused.specs.Run.{played, note_of, notes, after, change_count}
 use Rattle.reused.proofs.RunLaws.{ready_after, after_append, notes_append, count_append, size_kept, notes_length, count_most}
 use Rattle.reused_text.specs.Types.{Process, Version, State, Entry, Stepped, Note}
-use Rattle.reused_text.specs.Parts.{bit_entries_from}
+use Rattle.writer.specs.Parts.{InForm}
+use Rattle.reused_text.specs.Form.{line_fine}
+use Rattle.reused_text.specs.Parts.{bit_entries_left}
 use Rattle.reused_text.specs.Played.{in_log, seat_of, record_from, changes_from, records_from}
 use Rattle.reused_text.proofs.Entries.{seat, left, state_left, note_written, change_counted, seat_within, search_within, stored_small}
 
@@ -33,25 +35,25 @@ taken_next (x ∷ l) (suc j) e more h =
     (ap (λ xs. x ∷ xs) rest.0, rest.1)
 
 -- What the loop keeps: after j turns it stands where the run of the first j entries does, and at the line of the next one.
-pub record Turn (text : List ℕ) (from : ℕ) (rest₀ : List ℕ) (st₀ : State) (end n m : ℕ) (rest : List ℕ) (st : State) (changes : Version) (place j : ℕ) : Type 0 where
+pub record Turn (lines : List ℕ) (rest₀ : List ℕ) (st₀ : State) (end n m : ℕ) (rest : List ℕ) (st : State) (changes : Version) (behind : List ℕ) (j : ℕ) : Type 0 where
   pub within : j ≤ end
   pub size : st₀.n ≡ n
   pub round : st₀.m ≡ m
   pub ready : Ready st₀
-  pub long : end ≡ length (bit_entries_from text from)
+  pub long : end ≡ length (bit_entries_left lines)
   pub room : 12 * end ≤ length rest₀
   pub few : end ≤ 4294967295
-  pub stands : place ≤ length text
-  pub coming : drop j (bit_entries_from text from) ≡ bit_entries_from text place
-  pub state : st ≡ after st₀ (take j (bit_entries_from text from))
-  pub count : changes.0 ≡ change_count (notes st₀ (take j (bit_entries_from text from)))
-  pub log : rest ≡ records_of (map in_log (notes st₀ (take j (bit_entries_from text from)))) ++ drop (12 * j) rest₀
+  pub form : InForm line_fine behind
+  pub coming : drop j (bit_entries_left lines) ≡ bit_entries_left behind
+  pub state : st ≡ after st₀ (take j (bit_entries_left lines))
+  pub count : changes.0 ≡ change_count (notes st₀ (take j (bit_entries_left lines)))
+  pub log : rest ≡ records_of (map in_log (notes st₀ (take j (bit_entries_left lines)))) ++ drop (12 * j) rest₀
 
-pub turn_start : (text : List ℕ) (from : ℕ) (rest₀ : List ℕ) (st₀ : State) (end : ℕ) → Ready st₀ → from ≤ length text
-    → end ≡ length (bit_entries_from text from) → 12 * end ≤ length rest₀ → end ≤ 4294967295
-    → Turn text from rest₀ st₀ end st₀.n st₀.m rest₀ st₀ (record { 0 = 0 }) from 0
+pub turn_start : (lines : List ℕ) (rest₀ : List ℕ) (st₀ : State) (end : ℕ) → Ready st₀ → InForm line_fine lines
+    → end ≡ length (bit_entries_left lines) → 12 * end ≤ length rest₀ → end ≤ 4294967295
+    → Turn lines rest₀ st₀ end st₀.n st₀.m rest₀ st₀ (record { 0 = 0 }) lines 0
 unfolding after notes change_count records_of
-turn_start text from rest₀ st₀ end h stands long room few =
+turn_start lines rest₀ st₀ end h form long room few =
     record {
       within = omega arith;
       size = refl;
@@ -60,17 +62,17 @@ turn_start text from rest₀ st₀ end h stands long room few =
       long = long;
       room = room;
       few = few;
-      stands = stands;
+      form = form;
       coming = refl;
       state = refl;
       count = refl;
       log = refl;
     }
 
-module _ {text : List ℕ} {from : ℕ} {rest₀ : List ℕ} {st₀ : State} {end n m : ℕ} {rest : List ℕ} {st : State} {changes : Version} {place j : ℕ}
-    (h : Turn text from rest₀ st₀ end n m rest st changes place j) where
+module _ {lines : List ℕ} {rest₀ : List ℕ} {st₀ : State} {end n m : ℕ} {rest : List ℕ} {st : State} {changes : Version} {behind : List ℕ} {j : ℕ}
+    (h : Turn lines rest₀ st₀ end n m rest st changes behind j) where
   abbrev es : List Entry
-  es = bit_entries_from text from
+  es = bit_entries_left lines
 
   ready_now : Ready st
   ready_now = rw h.state (ready_after st₀ (take j es) h.ready)
@@ -97,20 +99,20 @@ module _ {text : List ℕ} {from : ℕ} {rest₀ : List ℕ} {st₀ : State} {en
   notes_more done e is = rw is (notes_append st₀ done (e ∷ []))
 
   -- there is an entry to come
-  pub some_coming : j < end → 0 < length (bit_entries_from text place)
+  pub some_coming : j < end → 0 < length (bit_entries_left behind)
   some_coming l = rw (← h.coming, length-drop) (omega (arith, h.long, l))
 
-  -- The turn itself, said of what the loop's calls gave: the entry and the place behind it, its seat, what it left, its record, the
+  -- The turn itself, said of what the loop's calls gave: the entry and the lines behind it, its seat, what it left, its record, the
   -- count, the log.
   pub turn_next : j < end
-      → (e : Entry) (place' : ℕ) → bit_entries_from text place ≡ e ∷ bit_entries_from text place' → place' ≤ length text
+      → (e : Entry) (behind' : List ℕ) → bit_entries_left behind ≡ e ∷ bit_entries_left behind' → InForm line_fine behind'
       → (i : Process) → i ≡ seat_of n e.process
       → (r : Stepped) → r ≡ played_parts n m e.process st.x (row_at st i.0) (looked_at st (row_at st i.0)) e.kind
       → (note : Note) → note ≡ record_from e.process.0 e.kind (row_at st i.0).place r.outcome
       → (changes' : Version) → changes'.0 ≡ changes.0 + cond (not (same_triple st.x r.x)) 1 0
       → (back : List ℕ) → back ≡ laid (record_of note) (take (length rest - 12 * j) (drop (12 * j) rest))
-      → Turn text from rest₀ st₀ end n m (take (12 * j) rest ++ (back ++ drop (length rest - 12 * j) (drop (12 * j) rest))) (with_entry st i r) changes' place' (j + 1)
-  turn_next l e place' next stands' i at r goes note says changes' counts back laid' =
+      → Turn lines rest₀ st₀ end n m (take (12 * j) rest ++ (back ++ drop (length rest - 12 * j) (drop (12 * j) rest))) (with_entry st i r) changes' behind' (j + 1)
+  turn_next l e behind' next form' i at r goes note says changes' counts back laid' =
       record {
         within = omega (arith, l);
         size = h.size;
@@ -119,15 +121,15 @@ module _ {text : List ℕ} {from : ℕ} {rest₀ : List ℕ} {st₀ : State} {en
         long = h.long;
         room = h.room;
         few = h.few;
-        stands = stands';
+        form = form';
         coming = rw (add-one j) two.1;
         state = rw (left_is, seat_is) (sym (now_after ∙ state_left st e ready_now));
         count = omega (arith, counts, h.count, total);
         log = grown done (record_of note) rest₀ rest back (12 * j) records_so_far (omega (arith, record_length note, h.room, l)) h.log laid' ∙ rw (record_length note, spot, more);
       }
     where
-      two : (take (suc j) es ≡ take j es ++ (e ∷ [])) × (drop (suc j) es ≡ bit_entries_from text place')
-      two = taken_next es j e (bit_entries_from text place') (h.coming ∙ next)
+      two : (take (suc j) es ≡ take j es ++ (e ∷ [])) × (drop (suc j) es ≡ bit_entries_left behind')
+      two = taken_next es j e (bit_entries_left behind') (h.coming ∙ next)
 
       seat_is : i ≡ seat st e
       seat_is = rw size_now at

@@ -5,6 +5,10 @@ use mathlib.Core.Path.{◌≡◌, refl, sym, ap, ◌∙◌}
 use mathlib.Core.List.{List, ◌++◌, map, append_assoc}
 use native.Mathlib.Omega.{arith}
 use borrow.Author.Tests.{le-leb, lt-leb, ne_eqb}
+use Rattle.std.specs.Prelude.{Result, Ok, Err}
+use Rattle.numbers.specs.Refusals.{refusal_number}
+use Rattle.numbers.proofs.Refusals.{refused, same_refusal}
+use Rattle.writer.proofs.Answers.{same_fields}
 use lib.ListN.{length, take, drop, length-append, length-drop, length-map}
 use lib.Seq.{take_at, drop_at, drop-drop}
 use Rattle.run_log.specs.Log.{laid, head_of, records_of, log_length}
@@ -12,17 +16,17 @@ use Rattle.run_log.specs.Found.{log_of}
 use Rattle.run_log.proofs.Laws.{head_length, log_length_lem, laid_fits, laid_short, tail_given, tail_back}
 use Rattle.text.specs.Lines.{newline}
 use Rattle.writer.specs.Form.{place_of}
-use Rattle.writer.specs.Parts.{entries_from}
-use Rattle.writer.proofs.Whole.{newline_there}
+use Rattle.writer.specs.Parts.{InForm, entries_left}
+use Rattle.writer.proofs.Whole.{newline_there, further_fine}
 use Rattle.reused.specs.State.{StartGiven, start_of}
 use Rattle.reused.specs.Frame.{Ready}
 use Rattle.reused.specs.Run.{notes, change_count}
 use Rattle.reused.proofs.Soundness.{sizes_fine, sizes_of_lem}
 use Rattle.reused.proofs.RunLaws.{ready_start, notes_length}
-use Rattle.reused_text.specs.Types.{State, Entry, Version, Note, Scanned}
-use Rattle.reused_text.specs.Form.{head_fine, line_fine, text_n, text_m, text_entries, text_number}
-use Rattle.reused_text.specs.Parts.{bit_entries_from, within, scanned_of}
-use Rattle.reused_text.specs.Played.{in_log, text_notes, text_log, ran_not, ran_of, log_after, changes_from, records_from}
+use Rattle.reused_text.specs.Types.{State, Entry, Version, Note, TextRefusal, Ran, Scanned, Told}
+use Rattle.reused_text.specs.Form.{head_fine, line_fine, outside, text_n, text_m, text_entries, text_number}
+use Rattle.reused_text.specs.Parts.{bit_entries_left, told_as, scanned_as, within, scanned_of}
+use Rattle.reused_text.specs.Played.{in_log, text_notes, text_log, ran_not, ran_as, ran_of, log_after, changes_from, records_from}
 use Rattle.reused_text.proofs.Texts.{number_parts, scanned_refused, scanned_accepted, scanned_number}
 
 -- Head, records and the rest of the log.
@@ -83,9 +87,12 @@ module _ (text : List ℕ) (z : text_number text ≡ 0) where
   pub begins : place_of newline text + 1 ≤ length text
   begins = omega (arith, newline_there head_fine line_fine text (number_parts text z).0)
 
+  pub lines_fine : InForm line_fine (drop (place_of newline text + 1) text)
+  lines_fine = further_fine head_fine line_fine text (number_parts text z).0
+
   -- its entries are those of the lines behind line one
-  pub entries_are : bit_entries_from text (place_of newline text + 1) ≡ text_entries text
-  unfolding entries_from
+  pub entries_are : bit_entries_left (drop (place_of newline text + 1) text) ≡ text_entries text
+  unfolding entries_left
   entries_are = refl
 
   ready : Ready (start_of (text_n text) (text_m text)).state
@@ -122,47 +129,57 @@ module _ (text : List ℕ) (z : text_number text ≡ 0) (told : Scanned) (w : to
   pub told_small : (told.n ≤ 16) × (told.entries ≤ 4294967295)
   told_small = rw w (few_n_lem text z, few_entries text z)
 
+  pub told_begins : told.from ≤ length text
+  told_begins = rw w (begins text z)
+
   pub told_entries : told.entries ≡ length (text_entries text)
   told_entries = rw w
 
   module _ (started : StartGiven) (begun : started ≡ start_of told.n told.m) (log : List ℕ) (room : log_length told.entries ≤ length log)
       (first : List ℕ) (lays : first ≡ laid (head_of told.entries 0 told.n) log) where
-    entries_long : told.entries ≡ length (bit_entries_from text told.from)
+    entries_long : told.entries ≡ length (bit_entries_left (drop told.from text))
     entries_long = rw (w, entries_are text z)
 
     start_is : started ≡ start_of (text_n text) (text_m text)
     start_is = rw w at begun
 
-    pub lines_given : (Ready started.state) × (told.from ≤ length text) × (told.entries ≡ length (bit_entries_from text told.from))
+    pub lines_given : (Ready started.state) × InForm line_fine (drop told.from text) × (told.entries ≡ length (bit_entries_left (drop told.from text)))
         × (12 * told.entries ≤ length (take (length first - 12) (drop 12 first))) × (told.entries ≤ 4294967295)
     lines_given = (
       start_ready text z started start_is,
-      rw w (begins text z),
+      rw w (lines_fine text z),
       entries_long,
-      rw (tail_given, length-drop) (rest_there started.state (bit_entries_from text told.from) told.n told.entries entries_long log room first lays),
+      rw (tail_given, length-drop) (rest_there started.state (bit_entries_left (drop told.from text)) told.n told.entries entries_long log room first lays),
       told_small.1,
     )
 
-    pub log_done : (changes : Version) → changes ≡ changes_from started.state (bit_entries_from text told.from)
-        → (back : List ℕ) → back ≡ records_from started.state (bit_entries_from text told.from) (take (length first - 12) (drop 12 first))
+    pub log_done : (changes : Version) → changes ≡ changes_from started.state (bit_entries_left (drop told.from text))
+        → (back : List ℕ) → back ≡ records_from started.state (bit_entries_left (drop told.from text)) (take (length first - 12) (drop 12 first))
         → (last : List ℕ) → last ≡ laid (head_of told.entries changes.0 told.n) (take 12 first ++ (back ++ drop (length first - 12) (drop 12 first)))
         → last ≡ laid (text_log text) log
     log_done changes counts back writes last lays-last =
-        log_is started.state (bit_entries_from text told.from) told.n told.entries entries_long log room first lays changes counts back writes last lays-last
+        log_is started.state (bit_entries_left (drop told.from text)) told.n told.entries entries_long log room first lays changes counts back writes last lays-last
         ∙ rw (start_is, w, entries_are text z) (ap (λ (f : List ℕ → List ℕ). f log) (text_log_lem text z))
 
 -- What a scan says decides.
-module _ (text : List ℕ) (told : Scanned) (is : told ≡ scanned_of text) where
-  number_is : told.number ≡ text_number text
-  number_is = rw is (scanned_number text)
-
-  pub ran_refused : (log : List ℕ) → (told.number ≡ 0 → ⊥) → (ran_not told.number told.line ≡ ran_of text log) × (log ≡ log_after text log)
+module _ (text : List ℕ) where
+  pub ran_refused : (e : TextRefusal) → scanned_as (Err e) ≡ scanned_of text → (log : List ℕ) → (ran_as (Err e) ≡ ran_of text log) × (log ≡ log_after text log)
   unfolding ran_of log_after
-  ran_refused log h =
-      let some : text_number text ≡ 0 → ⊥ = λ e. h (number_is ∙ e) in
-      (rw (is, scanned_refused text some, ne_eqb (text_number text) 0 some), rw (ne_eqb (text_number text) 0 some))
+  ran_refused e is log =
+      let number : refusal_number e.refusal ≡ text_number text = ap (λ (t : Scanned). t.number) is ∙ scanned_number text in
+      let not : text_number text ≡ 0 → ⊥ = λ q. omega (arith, q, number, refused e.refusal) in
+      let line : e.line ≡ outside text = ap (λ (t : Scanned). t.line) (is ∙ scanned_refused text not) in
+      (rw (ne_eqb (text_number text) 0 not, ← number, ← line), rw (ne_eqb (text_number text) 0 not))
 
-  pub accepted : told.number ≡ 0 → (text_number text ≡ 0) × (told ≡ within text)
-  accepted h =
-      let z : text_number text ≡ 0 = sym number_is ∙ h in
+  pub accepted : (told : Told) → told_as told ≡ scanned_of text → (text_number text ≡ 0) × (told_as told ≡ within text)
+  accepted told is =
+      let z : text_number text ≡ 0 = sym (scanned_number text) ∙ ap (λ (t : Scanned). t.number) (sym is) in
       (z, is ∙ scanned_accepted text z)
+
+-- no two answers tell the same
+pub same_ran : (x y : Result ℕ TextRefusal) → ran_as x ≡ ran_as y → x ≡ y
+same_ran (Ok m) (Ok n) h = ap (λ (k : ℕ). Ok k) (ap (λ (w : Ran). w.entries) h)
+same_ran (Ok m) (Err e) h = absurd (omega (arith, ap (λ (w : Ran). w.number) h, refused e.refusal))
+same_ran (Err d) (Ok n) h = absurd (omega (arith, ap (λ (w : Ran). w.number) h, refused d.refusal))
+same_ran (Err d) (Err e) h =
+    ap (λ (e : TextRefusal). Err e) (same_fields d e (same_refusal d.refusal e.refusal (ap (λ (w : Ran). w.number) h)) (ap (λ (w : Ran). w.line) h))

@@ -1,3 +1,4 @@
+pub mod Told
 pub mod Types
 pub mod Asked
 pub mod Form

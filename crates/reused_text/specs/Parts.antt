@@ -1,39 +1,60 @@
 -- What the inner functions promise: a line, line one, and a text as far as it is gone through before anything is played.
-use Rattle.std.specs.Prelude.{ℕ, ◌+◌, true, false, cond, ◌&&◌, List, map, eqb, leb, length}
+use Rattle.std.specs.Prelude.{ℕ, ◌+◌, cond, Option, Some, None, Result, Ok, Err, List, map, eqb, leb, length}
 use Rattle.numbers.specs.Numbers.{number_unless, first_found}
-use Rattle.text.specs.Lines.{newline}
+use Rattle.numbers.specs.Refusals.{refusal_number}
+use Rattle.text.specs.Decimal.{said}
+use Rattle.text.specs.Lines.{space, newline}
 use Rattle.writer.specs.Form as p1
-use Rattle.writer.specs.Form.{place_of, field_n}
-use Rattle.writer.specs.Parts.{numeral_of, entries_from, over_lines_by}
+use Rattle.writer.specs.Form.{place_of, before, behind, field_n}
+use Rattle.writer.specs.Parts.{below_64, size_of, entries_left}
 use Rattle.reused.specs.Circle.{sizes_number}
-use Rattle.reused_text.specs.Types.{Entry, Lines, Numeral, BitLine, Scanned, Sizes}
+use Rattle.reused_text.specs.Types.{Entry, TextRefusal, Scanned, Sizes, Told}
 use Rattle.reused_text.specs.Form.{field_m, head_fine, line_fine, entry_in, outside, text_n, text_m, text_entries, text_number}
 
-unfoldable pub bit_line_of : List ℕ → BitLine
-bit_line_of line = record { fine = line_fine line; entry = entry_in (p1.entry_in line) }
+abbrev pub bit_entry_in : List ℕ → Entry
+bit_entry_in line = entry_in (p1.entry_in line)
 
--- Line one: whether it is in the form, and N and M; a number of 2^64 or more, which is no N and no M, is given as 0.
-abbrev pub no_sizes : Sizes
-no_sizes = record { fine = false; n = 0; m = 0 }
+unfoldable pub bit_line_of : List ℕ → Option Entry
+bit_line_of line = cond (line_fine line) (Some (bit_entry_in line)) None
 
-unfoldable pub sizes_by : Numeral → Numeral → Sizes
-sizes_by n m = cond (n.fine && m.fine) (record { fine = true; n = n.value; m = m.value }) no_sizes
+-- Line one: N and M; a number of 2^64 or more, which is no N and no M, is given as 0.
+abbrev pub sizes_in : List ℕ → Sizes
+sizes_in line = record { n = below_64 (said (field_n line)); m = below_64 (said (field_m line)) }
 
-unfoldable pub sizes_of : List ℕ → Sizes
-sizes_of line =
-    cond (head_fine line) (record { fine = true; n = (numeral_of (field_n line)).value; m = (numeral_of (field_m line)).value }) no_sizes
+unfoldable pub sizes_of : List ℕ → Option Sizes
+sizes_of line = cond (head_fine line) (Some (sizes_in line)) None
 
--- the entries that the lines of a text from a place on ask for
-abbrev pub bit_entries_from : List ℕ → ℕ → List Entry
-bit_entries_from text at = map entry_in (entries_from text at)
+-- by its fields
+abbrev pub sized_by : Option ℕ → Option ℕ → Option Sizes
+sized_by (Some n) (Some m) = Some (record { n = n; m = m })
+sized_by (Some n) None = None
+sized_by None m = None
 
--- what lines come to, the first of which has number k, behind e entries
-abbrev pub over_lines : ℕ → ℕ → List (List ℕ) → Lines
-over_lines k e ls = over_lines_by line_fine k e ls
+abbrev pub fields_of : List ℕ → Option Sizes
+fields_of rest = sized_by (size_of (before space rest)) (size_of (behind space rest))
+
+-- the entries that lines ask for
+abbrev pub bit_entries_left : List ℕ → List Entry
+bit_entries_left lines = map entry_in (entries_left lines)
 
 -- the whole text
 abbrev pub passed_over : ℕ → ℕ → Scanned
 passed_over number line = record { number = number; line = line; from = 0; entries = 0; n = 0; m = 0 }
+
+abbrev pub told_as : Told → Scanned
+told_as told =
+    record {
+      number = 0;
+      line = 0;
+      from = told.from;
+      entries = told.entries;
+      n = told.sizes.n;
+      m = told.sizes.m;
+    }
+
+abbrev pub scanned_as : Result Told TextRefusal → Scanned
+scanned_as (Ok told) = told_as told
+scanned_as (Err e) = passed_over (refusal_number e.refusal) e.line
 
 -- a text whose lines are all in the form, by what line one says, where the further lines begin and how many entries they ask for
 unfoldable pub judged : Sizes → ℕ → ℕ → Scanned

@@ -1,12 +1,13 @@
 -- The run of a text: the record of each entry in the log's form, every byte of the lent log, and what is printed.
-use Rattle.std.specs.Prelude.{ℕ, ◌*◌, Bool, true, false, cond, List, ◌++◌, map, eqb, ltb, leb, length, drop}
+use Rattle.std.specs.Prelude.{ℕ, ◌*◌, Bool, true, false, cond, Result, Ok, Err, List, ◌++◌, map, eqb, ltb, leb, length, drop}
+use Rattle.numbers.specs.Refusals.{refusal_number}
 use Rattle.run_log.specs.Log.{records_of, laid, log_length}
 use Rattle.run_log.specs.Found.{log_of}
 use Rattle.text.specs.Lines.{head_line, lines_of, refused_text_line}
 use Rattle.reused.specs.Steps.{told_of}
 use Rattle.reused.specs.State.{start_of}
 use Rattle.reused.specs.Run.{EntryNote, steps_by, notes, change_count}
-use Rattle.reused_text.specs.Types.{Process, State, Entry, Kind, Place, Outcome, Note, Version, Ran}
+use Rattle.reused_text.specs.Types.{Process, State, Entry, Kind, Place, Outcome, Note, Version, TextRefusal, Ran}
 use Rattle.reused_text.specs.Form.{outside, text_n, text_m, text_entries, text_number}
 
 abbrev pub bit_number : Bool → ℕ
@@ -36,6 +37,11 @@ text_log text = log_of (change_count (text_notes text)) (text_n text) (map in_lo
 -- The text's refusals, then "27 for a lent output that is too short": the number, the line that 25 names, and how many entries were played.
 abbrev pub ran_not : ℕ → ℕ → Ran
 ran_not number line = record { number = number; line = line; entries = 0 }
+
+-- what an answer tells
+abbrev pub ran_as : Result ℕ TextRefusal → Ran
+ran_as (Ok entries) = record { number = 0; line = 0; entries = entries }
+ran_as (Err e) = ran_not (refusal_number e.refusal) e.line
 
 unfoldable pub ran_of : List ℕ → List ℕ → Ran
 ran_of text log =

@@ -1,4 +1,4 @@
--- The types that the code declares, here and below, by their names.
+-- The types that the code declares, here and below, by their names; and those that only what is told of a text has.
 pub use Rattle.numbers.specs.declared.Process.{Process}
 pub use Rattle.numbers.specs.declared.Version.{Version}
 pub use Rattle.run_log.specs.declared.Note.{Note}
@@ -19,9 +19,7 @@ pub use Rattle.reused.specs.declared.Requested.{Requested}
 pub use Rattle.reused.specs.declared.State.{State}
 pub use Rattle.reused.specs.declared.Stepped.{Stepped}
 pub use Rattle.reused.specs.declared.Triple.{Triple}
-pub use Rattle.writer.specs.declared.Lines.{Lines}
-pub use Rattle.writer.specs.declared.Numeral.{Numeral}
-pub use Rattle.reused_text.specs.declared.BitLine.{BitLine}
-pub use Rattle.reused_text.specs.declared.Ran.{Ran}
-pub use Rattle.reused_text.specs.declared.Scanned.{Scanned}
+pub use Rattle.writer.specs.declared.TextRefusal.{TextRefusal}
 pub use Rattle.reused_text.specs.declared.Sizes.{Sizes}
+pub use Rattle.reused_text.specs.declared.Told.{Told}
+pub use Rattle.reused_text.specs.Told.{Ran, Scanned}

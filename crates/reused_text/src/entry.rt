@@ -1,31 +1,29 @@
 // One entry of a run: read from its line, given its row, and written as a record.
-ghost use Rattle.std.specs.Prelude.{◌≡◌, ◌∷◌, ◌+◌, ◌≤◌, ◌<◌, cond, not, length};
+ghost use Rattle.std.specs.Prelude.{◌≡◌, ◌∷◌, ◌+◌, ◌<◌, cond, not, length};
 ghost use Rattle.reused.specs.Steps.{same_triple, told_of};
-ghost use Rattle.reused_text.specs.Parts.{bit_entries_from};
+ghost use Rattle.writer.specs.Parts.{InForm};
+ghost use Rattle.reused_text.specs.Form.{line_fine};
+ghost use Rattle.reused_text.specs.Parts.{bit_entries_left};
 ghost use Rattle.reused_text.specs.Played.{bit_number, seat_of, record_from};
 
-use crate::Next;
 use crate::form::read_bit_line;
 use numbers::{Process, Version};
 use reused::play::{steps_by, x_changed};
-use reused::{Kind, Outcome, Place, Told, Triple};
+use reused::{Entry, Kind, Outcome, Place, Told, Triple};
 use run_log::Note;
-use writer::find::place_of;
+use writer::find::split_once;
 
-// The entry that the next line asks for, and the place behind its newline.
-pub(crate) fn next_entry(text: &[u8], at: usize) -> Next
-    requires { (at ≤ length text.now) × (0 < length (bit_entries_from text.now at)) }
-    ensures { (bit_entries_from text.now at ≡ result.entry ∷ bit_entries_from text.now result.at) × (result.at ≤ length text.now)
-        × (result.entry.process.0 < 256) }
+// The entry that the next line asks for, and the lines behind it.
+pub(crate) fn next_entry(lines: &[u8]) -> (Entry, &[u8])
+    requires form { InForm line_fine lines.now }
+    requires some { 0 < length (bit_entries_left lines.now) }
+    ensures entry { bit_entries_left lines.now ≡ result.0 ∷ bit_entries_left result.1.now }
+    ensures form { InForm line_fine result.1.now }
+    ensures small { result.0.process.0 < 256 }
 {
-    let end = place_of(text, at, 10);
-    let this = read_bit_line(&text[at..end]);
-    let entry = this.entry;
-    let next = end + 1;
-    Next {
-        entry: entry,
-        at: next,
-    }
+    let (line, behind) = split_once(lines, b'\n').unwrap();
+    let entry = read_bit_line(line).unwrap();
+    (entry, behind)
 }
 
 // Whose row an entry of process p is given: p's, and for a process that is not there the first.

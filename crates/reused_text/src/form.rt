@@ -1,16 +1,13 @@
 // The lines of a text, without their newlines.
-ghost use Rattle.std.specs.Prelude.{◌≡◌, ◌∷◌, ◌+◌, drop};
-ghost use Rattle.writer.specs.Parts.{numeral_of};
+ghost use Rattle.std.specs.Prelude.{◌≡◌};
 ghost use Rattle.reused_text.specs.Form.{stores_bit, asks_bit, request_in, kind_in};
-ghost use Rattle.reused_text.specs.Parts.{bit_line_of, no_sizes, sizes_by, sizes_of};
+ghost use Rattle.reused_text.specs.Parts.{bit_line_of, fields_of, sizes_of};
 
-use crate::{BitLine, Sizes};
-use numbers::both;
+use crate::Sizes;
 use reused::{Entry, Kind, Request};
-use writer::Numeral;
-use writer::decimal::read_numeral;
-use writer::find::place_of;
-use writer::form::read_line;
+use writer::decimal::read_size;
+use writer::find::split_once;
+use writer::form::{read_line, split_letter};
 
 fn stores_bit(request: step::Request) -> bool
     ensures { result ≡ stores_bit request }
@@ -36,10 +33,7 @@ fn request_in(request: step::Request) -> Request
 {
     match request {
         step::Request::Load => Request::Load,
-        step::Request::Store(value) => {
-            let bit = value == 1;
-            Request::Store(bit)
-        }
+        step::Request::Store(value) => Request::Store(value == 1),
         step::Request::Check => Request::Check,
     }
 }
@@ -48,100 +42,44 @@ fn kind_in(kind: step::Kind) -> Kind
     ensures { result ≡ kind_in kind }
 {
     match kind {
-        step::Kind::Ask(request) => {
-            let wanted = request_in(request);
-            Kind::Ask(wanted)
-        }
+        step::Kind::Ask(request) => Kind::Ask(request_in(request)),
         step::Kind::Step => Kind::Step,
     }
 }
 
 // A further line.
-pub(crate) fn read_bit_line(line: &[u8]) -> BitLine
+#[tactic(auto, unfolding(crate::specs::Parts::bit_line_of, crate::specs::Form::line_fine, writer::specs::Parts::line_of))]
+pub(crate) fn read_bit_line(line: &[u8]) -> Option<Entry>
     ensures { result ≡ bit_line_of line.now }
 {
-    let told = read_line(line);
-    let asked = told.entry;
-    let process = asked.process;
-    let kind = asked.kind;
-    let bit = asks_bit(kind);
-    let fine = both(told.fine, bit);
-    let wanted = kind_in(kind);
-    let entry = Entry {
-        process: process,
-        kind: wanted,
-    };
-    BitLine {
-        fine: fine,
-        entry: entry,
+    let asked = read_line(line)?;
+    if !asks_bit(asked.kind) {
+        return None;
     }
-}
-
-fn no_sizes() -> Sizes
-    ensures { result ≡ no_sizes }
-{
-    Sizes {
-        fine: false,
-        n: 0,
-        m: 0,
-    }
-}
-
-// N and M from what their fields say.
-#[tactic(auto, unfolding(crate::specs::Parts::sizes_by))]
-fn sizes_with(n: Numeral, m: Numeral) -> Sizes
-    ensures { result ≡ sizes_by n m }
-{
-    let form = both(n.fine, m.fine);
-    if form {
-        let size = n.value as usize;
-        let round = m.value;
-        return Sizes {
-            fine: true,
-            n: size,
-            m: round,
-        };
-    }
-    no_sizes()
-}
-
-// What the bytes behind a place say as a numeral.
-fn read_behind(b: &[u8], at: usize) -> Numeral
-    ensures { result ≡ numeral_of (drop (at + 1) b.now) }
-{
-    let n = b.len();
-    if at < n {
-        let next = at + 1;
-        return read_numeral(&b[next..n]);
-    }
-    read_numeral(&b[n..n])
+    Some(Entry {
+        process: asked.process,
+        kind: kind_in(asked.kind),
+    })
 }
 
 // `H N M`, from behind its first space.
-fn read_fields(rest: &[u8]) -> Sizes
-    ensures { result ≡ sizes_of (72 ∷ 32 ∷ rest.now) }
+fn read_fields(rest: &[u8]) -> Option<Sizes>
+    ensures { result ≡ fields_of rest.now }
 {
-    let end = place_of(rest, 0, 32);
-    let n = read_numeral(&rest[0..end]);
-    let m = read_behind(rest, end);
-    sizes_with(n, m)
+    let (n, m) = split_once(rest, b' ')?;
+    let n = read_size(n)?;
+    let m = read_size(m)?;
+    Some(Sizes { n: n as usize, m })
 }
 
 // Line one.
-pub(crate) fn read_sizes(line: &[u8]) -> Sizes
+pub(crate) fn read_sizes(line: &[u8]) -> Option<Sizes>
     ensures { result ≡ sizes_of line.now }
 {
-    let n = line.len();
-    if n < 2 {
-        return no_sizes();
-    }
-    let letter = line[0];
-    let gap = line[1];
-    let head = letter == 72;
-    let spaced = gap == 32;
-    if both(head, spaced) {
-        read_fields(&line[2..n])
+    let (letter, rest) = split_letter(line)?;
+    if letter == b'H' {
+        read_fields(rest)
     } else {
-        no_sizes()
+        None
     }
 }

@@ -2,8 +2,6 @@
 // function answers for every input, and its `ensures` gives the answer, and every byte of what is lent, as definitions of specs/.
 #![tactic(auto)]
 
-use reused::Entry;
-
 mod entry;
 mod form;
 mod play;
@@ -12,44 +10,17 @@ pub mod whole;
 
 pub use whole::play_text;
 
-// What came of a text: 0 or what turned it away, the line that 25 names, and how many entries were played.
-#[derive(Clone, Copy)]
-pub struct Ran {
-    pub number: usize,
-    pub line: usize,
-    pub entries: usize,
-}
-
-// What a further line says: whether it is in the form, and what it asks for.
-#[derive(Clone, Copy)]
-pub struct BitLine {
-    pub fine: bool,
-    pub entry: Entry,
-}
-
-// What line one says: whether it is in the form, N and M.
+// What line one says, N and M; one of 2^64 or more is given as 0.
 #[derive(Clone, Copy)]
 pub struct Sizes {
-    pub fine: bool,
     pub n: usize,
     pub m: u64,
 }
 
-// What a text says: the number that refuses it and the line that 25 names, or where its further lines begin, how many entries they ask
-// for, N and M.
+// What a text says that is not refused: N and M, where its further lines begin, and how many entries they ask for.
 #[derive(Clone, Copy)]
-pub struct Scanned {
-    pub number: usize,
-    pub line: usize,
+pub struct Told {
+    pub sizes: Sizes,
     pub from: usize,
     pub entries: usize,
-    pub n: usize,
-    pub m: u64,
-}
-
-// The entry that a line asks for, and the place behind its newline.
-#[derive(Clone, Copy)]
-pub struct Next {
-    pub entry: Entry,
-    pub at: usize,
 }

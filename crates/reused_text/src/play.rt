@@ -1,7 +1,9 @@
 // The entries of a text, played one after another on a state that the loop keeps itself.
 ghost use Rattle.std.specs.Prelude.{◌≡◌, ◌*◌, ◌≤◌, length};
 ghost use Rattle.reused.specs.Frame.{Ready};
-ghost use Rattle.reused_text.specs.Parts.{bit_entries_from};
+ghost use Rattle.writer.specs.Parts.{InForm};
+ghost use Rattle.reused_text.specs.Form.{line_fine};
+ghost use Rattle.reused_text.specs.Parts.{bit_entries_left};
 ghost use Rattle.reused_text.specs.Played.{changes_from, records_from};
 
 use crate::entry::{count, next_entry, note_of, seat_of};
@@ -9,27 +11,23 @@ use numbers::Version;
 use reused::{Parts, State};
 use run_log::write::write_record;
 
-// Plays the entries that the lines from a place on ask for, and writes their records into the front of the rest of the log.
-pub(crate) fn play_lines(
-    text: &[u8],
-    from: usize,
-    rest: &mut [u8],
-    first: State,
-    end: usize,
-) -> Version
-    requires { (Ready first) × (from ≤ length text.now) × (end ≡ length (bit_entries_from text.now from)) × (12 * end ≤ length rest.old) × (end ≤ 4294967295) }
-    ensures { (result ≡ changes_from first (bit_entries_from text.now from)) × (rest.new ≡ records_from first (bit_entries_from text.now from) rest.old) }
+// Plays the entries that lines ask for, and writes their records into the front of the rest of the log.
+pub(crate) fn play_lines(lines: &[u8], rest: &mut [u8], first: State, end: usize) -> Version
+    requires ready { Ready first }
+    requires form { InForm line_fine lines.now }
+    requires count { end ≡ length (bit_entries_left lines.now) }
+    requires room { 12 * end ≤ length rest.old }
+    requires few { end ≤ 4294967295 }
+    ensures { (result ≡ changes_from first (bit_entries_left lines.now)) × (rest.new ≡ records_from first (bit_entries_left lines.now) rest.old) }
 {
     let n = first.n;
     let m = first.m;
     let mut st = first;
     let mut changes = Version(0);
-    let mut place = from;
-    let mut j = 0;
-    while j < end {
-        let next = next_entry(text, place);
-        let entry = next.entry;
-        place = next.at;
+    let mut behind = lines;
+    for j in 0..end {
+        let (entry, next) = next_entry(behind);
+        behind = next;
         let p = entry.process;
         let kind = entry.kind;
         let seat = seat_of(n, p);
@@ -53,7 +51,6 @@ pub(crate) fn play_lines(
         let at = 12 * j;
         write_record(&mut rest[at..], note);
         changes = count(changes, x, now);
-        j = j + 1;
     }
     changes
 }

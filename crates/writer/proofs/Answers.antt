@@ -28,7 +28,7 @@ use Rattle.writer.proofs.Within.{number_parts}
 pub record Accepted (text : List ℕ) (told : Scanned) : Type 0 where
   pub fine : text_number text ≡ 0
   pub within : told.from ≤ length text
-  pub form : InForm (drop told.from text)
+  pub form : InForm line_fine (drop told.from text)
   pub count : told.entries ≡ length (entries_left (drop told.from text))
   pub few : told.entries ≤ 5334
   pub file : file_made told.n told.s told.v (entries_left (drop told.from text)) ≡ text_file text
@@ -46,7 +46,7 @@ accepted_scan text told e h = rw (e ∙ scanned_accepted text fine) known
         record {
           fine = fine;
           within = omega (arith, newline_there head_fine line_fine text (number_parts text fine).0);
-          form = further_fine text (number_parts text fine).0;
+          form = further_fine head_fine line_fine text (number_parts text fine).0;
           count = refl;
           few = (number_parts text fine).1.1;
           file = refl;
@@ -110,7 +110,7 @@ written_low text out = go (dec_lt 0 (text_number text))
         rw fine (room (omega (arith, size, few)) (leb (length (text_file text)) (length out)))
 
 -- a refusal with its line is both together
-same_fields : (d e : TextRefusal) → d.refusal ≡ e.refusal → d.line ≡ e.line → d ≡ e
+pub same_fields : (d e : TextRefusal) → d.refusal ≡ e.refusal → d.line ≡ e.line → d ≡ e
 same_fields d e h k = λ i. record { refusal = h i; line = k i }
 
 -- no two answers tell the same

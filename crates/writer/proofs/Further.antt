@@ -1,6 +1,6 @@
 -- The further lines of a text, one after another: what they come to, and the entries that they ask for.
 -- Assumes nothing.
-use Prim.Native.Nat.{ℕ, suc, ◌+◌, ◌≤◌, ◌<◌}
+use Prim.Native.Nat.{ℕ, suc, ◌+◌, ◌-◌, ◌≤◌, ◌<◌}
 use mathlib.Core.Path.{◌≡◌, refl, sym}
 use mathlib.Core.Bool.{Bool, true, false, cond, false≢true}
 use mathlib.Core.List.{List, [], ◌∷◌}
@@ -9,7 +9,8 @@ use native.Mathlib.Decide.{dec_lt}
 use native.Mathlib.Omega.{arith}
 use borrow.Author.Tests.{ne_eqb}
 use lib.Dec.{eqb}
-use lib.ListN.{length, length-drop}
+use lib.ListN.{length, take, drop, length-drop}
+use lib.Seq.{take_all}
 use Rattle.std.specs.Prelude.{Option, Some, None, is_some, IsSome, IfNone, Ok, Err}
 use Rattle.text.specs.Lines.{newline}
 use Rattle.writer.specs.Form.{place_of, before, behind, parts, line_fine, entry_in, first_outside_by, entries_in}
@@ -103,16 +104,21 @@ module _ (rest : List ℕ) where
         (some_part newline (λ ls. entries_in (before newline rest ∷ ls) ≡ entry_in (before newline rest) ∷ entries_in ls)
         (λ part more. refl) (behind newline rest))
 
-    parts_fine : InForm rest → (line_fine (before newline rest) ≡ true) × (first_outside_by line_fine 2 (lines_in (behind newline rest)) ≡ 0)
-    unfolding InForm
-    parts_fine f = first_fine line_fine (before newline rest) (behind newline rest) (rw (parts_first newline rest h) at f)
+    module _ (fine : List ℕ → Bool) where
+      parts_fine : InForm fine rest → (fine (before newline rest) ≡ true) × (first_outside_by fine 2 (lines_in (behind newline rest)) ≡ 0)
+      unfolding InForm
+      parts_fine f = first_fine fine (before newline rest) (behind newline rest) (rw (parts_first newline rest h) at f)
 
-    pub line_next : InForm rest → line_fine (before newline rest) ≡ true
-    line_next f = (parts_fine f).0
+      pub line_next : InForm fine rest → fine (before newline rest) ≡ true
+      line_next f = (parts_fine f).0
 
-    pub form_next : InForm rest → InForm (behind newline rest)
-    unfolding InForm
-    form_next f = all_earlier line_fine 1 (lines_in (behind newline rest)) (parts_fine f).1
+      pub form_next : InForm fine rest → InForm fine (behind newline rest)
+      unfolding InForm
+      form_next f = all_earlier fine 1 (lines_in (behind newline rest)) (parts_fine f).1
+
+-- what stands from a place on
+pub part_from : (l : List ℕ) (from : ℕ) → take (length l - from) (drop from l) ≡ drop from l
+part_from l from = take_all (length l - from) (drop from l) (rw length-drop (omega arith))
 
 -- what stands behind the next newline is less
 pub behind_length : (c : ℕ) (l : List ℕ) → place_of c l < length l → length (behind c l) + (place_of c l + 1) ≡ length l

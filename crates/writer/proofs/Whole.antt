@@ -99,6 +99,34 @@ module _ {T : Type 0} (headed : List ℕ → Bool) (opening : List ℕ → T) (f
         go true m e = ap (λ (k : ℕ). Ok (as_read k)) (sym (zero-add m) ∙ sym (same_ok e))
         go false m e = absurd (ok-err e)
 
+  -- and read back: no line is outside the form, or the first that is
+  pub read_ok : (read : Read T) → Ok read ≡ read_by headed opening fine text
+      → (outside_by headed fine text ≡ 0)
+      × (read ≡ record { opening = opening (line_one text); from = place_of newline text + 1; entries = length (text_entries text) })
+  unfolding read_by
+  read_ok read e = go (outside_by headed fine text) (dec_lt 0 (outside_by headed fine text)) e
+    where
+      all : Read T
+      all = record { opening = opening (line_one text); from = place_of newline text + 1; entries = length (text_entries text) }
+
+      go : (n : ℕ) → Dec (0 < n) → Ok read ≡ cond (eqb n 0) (Ok all) (Err n) → (n ≡ 0) × (read ≡ all)
+      go n (yes h) e = absurd (ok-err (rw (ne_eqb n 0 (λ q. omega (arith, h, q))) at e))
+      go n (no h) e =
+          let z : n ≡ 0 = omega (arith, h) in
+          (z, same_ok (rw z at e))
+
+  pub read_err : (line : ℕ) → Err line ≡ read_by headed opening fine text → (outside_by headed fine text ≡ line) × (line ≡ 0 → ⊥)
+  unfolding read_by
+  read_err line e = go (outside_by headed fine text) (dec_lt 0 (outside_by headed fine text)) _ e
+    where
+      go : (n : ℕ) → Dec (0 < n) → (x : Read T) → Err line ≡ cond (eqb n 0) (Ok x) (Err n) → (n ≡ line) × (line ≡ 0 → ⊥)
+      go n (yes h) x e =
+          let same = same_err (rw (ne_eqb n 0 (λ q. omega (arith, h, q))) at e) in
+          (sym same, λ q. omega (arith, h, q, same))
+      go n (no h) x e =
+          let z : n ≡ 0 = omega (arith, h) in
+          absurd (ok-err (sym (rw z at e)))
+
 pub absent : {T : Type 0} (t : Bool) (x : T) → None ≡ cond t (Some x) None → t ≡ false
 absent true x e = absurd (none-some x e)
 absent false x e = refl
@@ -136,40 +164,31 @@ module _ (o : Opening) (from entries : ℕ) where
   unfolding judged
   judged_few h k = rw (h, le-leb entries 5334 k)
 
--- the further lines of a text with no line outside the form
-further_none : (text : List ℕ) → outside text ≡ 0 → first_outside_by line_fine 2 (further text) ≡ 0
-unfolding outside_by
-further_none text e = go (leb (length text) (place_of newline text)) (head_fine (line_one text)) e
-  where
-    go : (a b : Bool) → cond a 1 (cond b (first_outside_by line_fine 2 (further text)) 1) ≡ 0 → first_outside_by line_fine 2 (further text) ≡ 0
-    go true b h = absurd (omega (arith, h))
-    go false true h = h
-    go false false h = absurd (omega (arith, h))
+-- the further lines of a text with no line outside a form
+module _ (headed fine : List ℕ → Bool) (text : List ℕ) (e : outside_by headed fine text ≡ 0) where
+  further_none : first_outside_by fine 2 (further text) ≡ 0
+  unfolding outside_by
+  further_none = go (leb (length text) (place_of newline text)) (headed (line_one text)) e
+    where
+      go : (a b : Bool) → cond a 1 (cond b (first_outside_by fine 2 (further text)) 1) ≡ 0 → first_outside_by fine 2 (further text) ≡ 0
+      go true b h = absurd (omega (arith, h))
+      go false true h = h
+      go false false h = absurd (omega (arith, h))
 
-pub further_fine : (text : List ℕ) → outside text ≡ 0 → InForm (drop (place_of newline text + 1) text)
-unfolding InForm
-further_fine text e = all_earlier line_fine 1 (further text) (further_none text e)
+  pub further_fine : InForm fine (drop (place_of newline text + 1) text)
+  unfolding InForm
+  further_fine = all_earlier fine 1 (further text) further_none
 
 module _ (text : List ℕ) where
   -- its first line outside the form
+  scanned_outside : (line : ℕ) → outside text ≡ line → (line ≡ 0 → ⊥) → scanned_of text ≡ passed_over 25 line
+  unfolding scanned_of text_number
+  scanned_outside line e h = rw (e, ne_eqb line 0 h)
+
   pub scanned_form : (line : ℕ) → Err line ≡ read_by head_fine opening_in line_fine text → passed_over 25 line ≡ scanned_of text
-  unfolding scanned_of text_number read_by
-  scanned_form line e = go (outside text) (dec_lt 0 (outside text)) _ e
-    where
-      rest : ℕ
-      rest = first_found (range_number (text_n text) (record { 0 = text_s text })) (number_unless (leb (length (text_entries text)) 5334) 26)
-
-      number : ℕ → ℕ
-      number n = first_found (number_unless (eqb n 0) 25) rest
-
-      go : (n : ℕ) → Dec (0 < n) → (x : Read Opening) → Err line ≡ cond (eqb n 0) (Ok x) (Err n)
-          → passed_over 25 line ≡ cond (eqb (number n) 0) (within text) (passed_over (number n) n)
-      go n (yes h) x e =
-          let not : eqb n 0 ≡ false = ne_eqb n 0 (λ q. omega (arith, h, q)) in
-          rw not (ap (λ (k : ℕ). passed_over 25 k) (same_err (rw not at e)))
-      go n (no h) x e =
-          let z : n ≡ 0 = omega (arith, h) in
-          absurd (ok-err (sym (rw z at e)))
+  scanned_form line e =
+      let p = read_err head_fine opening_in line_fine text line e in
+      sym (scanned_outside line p.0 p.1)
 
   -- or none
   judged_text : outside text ≡ 0 → judged (opening_in (line_one text)) (place_of newline text + 1) (length (text_entries text)) ≡ scanned_of text
@@ -216,17 +235,9 @@ module _ (text : List ℕ) where
 
   pub scanned_judged : (read : Read Opening) → Ok read ≡ read_by head_fine opening_in line_fine text
       → judged read.opening read.from read.entries ≡ scanned_of text
-  unfolding read_by
-  scanned_judged read e = go (dec_lt 0 (outside text)) e
-    where
-      all : Read Opening
-      all = record { opening = opening_in (line_one text); from = place_of newline text + 1; entries = length (text_entries text) }
-
-      go : Dec (0 < outside text) → Ok read ≡ cond (eqb (outside text) 0) (Ok all) (Err (outside text)) → judged read.opening read.from read.entries ≡ scanned_of text
-      go (yes h) e = absurd (ok-err (rw (ne_eqb (outside text) 0 (λ q. omega (arith, h, q))) at e))
-      go (no h) e =
-          let z : outside text ≡ 0 = omega (arith, h) in
-          rw (same_ok (rw z at e)) (judged_text z)
+  scanned_judged read e =
+      let p = read_ok head_fine opening_in line_fine text read e in
+      rw p.1 (judged_text p.0)
 
   -- what a scan says, by the number that refuses the text
   pub scanned_number : (scanned_of text).number ≡ text_number text

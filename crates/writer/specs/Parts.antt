@@ -1,12 +1,30 @@
 -- What the inner functions promise: a numeral, a line, and a text as far as the writer goes through it before it writes.
-use Rattle.std.specs.Prelude.{ℕ, ◌≡◌, ◌+◌, Bool, cond, Option, Some, None, option_map, Result, Ok, Err, List, eqb, leb, length}
+use Rattle.std.specs.Prelude.{ℕ, ◌≡◌, ◌+◌, Bool, cond, Option, Some, None, option_map, Result, Ok, Err, List, eqb, ltb, leb, length, get_or, drop}
+use Rattle.std.specs.Borrow.{Bor}
 use Rattle.numbers.specs.Numbers.{range_number}
 use Rattle.numbers.specs.Refusals.{refusal_number}
 use Rattle.text.specs.Decimal.{said}
 use Rattle.text.specs.Lines.{space, newline}
 use Rattle.writer.specs.Types.{Process, Entry, Kind, Ask, Store, NumeralError, NoNumeral, TooLarge, Opening, Read, Told, TextRefusal, Scanned}
-use Rattle.writer.specs.Form.{place_of, before, behind, parts, is_numeral, is_process, head_fine, field_n, field_s, field_v, line_fine, entry_in, line_one, first_outside, first_outside_by, outside_by, outside, entries_in, text_n, text_s, text_v, text_entries}
+use Rattle.writer.specs.Form.{place_of, before, behind, parts, is_numeral, is_process, head_fine, field_n, field_s, field_v, line_fine, entry_in, line_one, first_outside_by, outside_by, outside, entries_in, text_n, text_s, text_v, text_entries}
 use Rattle.writer.specs.Writer.{text_number}
+
+-- what stands before a byte and behind it, where it stands somewhere
+unfoldable pub split_by : ℕ → List ℕ → Option (List ℕ × List ℕ)
+split_by c l = cond (ltb (place_of c l) (length l)) (Some (before c l, behind c l)) None
+
+-- a line's letter, and what stands behind the space that follows it
+unfoldable pub letter_of : List ℕ → Option (ℕ × List ℕ)
+letter_of line = cond (eqb (get_or line 1 0) space) (Some (get_or line 0 0, drop 2 line)) None
+
+-- what parts of a lent slice hold
+abbrev pub halves_in : Option (Bor (List ℕ) × Bor (List ℕ)) → Option (List ℕ × List ℕ)
+halves_in (Some r) = Some (r.0.now, r.1.now)
+halves_in None = None
+
+abbrev pub letter_in : Option (ℕ × Bor (List ℕ)) → Option (ℕ × List ℕ)
+letter_in (Some r) = Some (r.0, r.1.now)
+letter_in None = None
 
 -- whether bytes are a numeral, and then its number, if it is below 2^64
 unfoldable pub numeral_of : List ℕ → Result ℕ NumeralError
@@ -66,9 +84,9 @@ lines_in rest = parts newline rest
 unfoldable pub entries_left : List ℕ → List Entry
 entries_left rest = entries_in (lines_in rest)
 
--- all of them are in the form
-unfoldable pub InForm : List ℕ → Type 0
-InForm rest = first_outside 1 (lines_in rest) ≡ 0
+-- all of them are in a form
+unfoldable pub InForm : (List ℕ → Bool) → List ℕ → Type 0
+InForm fine rest = first_outside_by fine 1 (lines_in rest) ≡ 0
 
 -- what lines come to, the first of which has number k, behind e entries: how many entries, or the first line outside the form
 unfoldable pub over_lines_by : (List ℕ → Bool) → ℕ → ℕ → List (List ℕ) → Result ℕ ℕ

@@ -2,6 +2,7 @@
 ghost use Rattle.std.specs.Prelude.{◌≡◌, ◌++◌, ◌≤◌, ◌<◌, length, take, drop};
 ghost use Rattle.numbers.specs.Numbers.{bytes_of};
 ghost use Rattle.schedule.specs.File.{check_of};
+ghost use Rattle.writer.specs.Form.{line_fine};
 ghost use Rattle.writer.specs.Made.{kind_byte, kind_value, entry_made, first_made, later_made};
 ghost use Rattle.writer.specs.Parts.{InForm, entries_left};
 
@@ -58,12 +59,12 @@ pub(crate) fn first_block(start: Start, after: usize) -> [u8; 512]
 
 // Block k, with the entries that the next c lines ask for; and the lines behind them.
 pub(crate) fn later_block(lines: &[u8], k: usize, c: usize) -> ([u8; 512], &[u8])
-    requires form { InForm lines.now }
+    requires form { InForm line_fine lines.now }
     requires some { c ≤ length (entries_left lines.now) }
     requires few { c ≤ 42 }
     ensures block { result.0 ≡ later_made k (take c (entries_left lines.now)) }
     ensures left { entries_left result.1.now ≡ drop c (entries_left lines.now) }
-    ensures form { InForm result.1.now }
+    ensures form { InForm line_fine result.1.now }
 {
     let mut block = [0; 512];
     block[..2].copy_from_slice(&k.to_le_bytes()[..2]);

@@ -2,6 +2,7 @@
 ghost use Rattle.std.specs.Prelude.{◌≡◌, ◌+◌, ◌*◌, ◌≤◌, length};
 ghost use Rattle.std.proofs.lemmas.List.Edits.{sets};
 ghost use Rattle.run_log.specs.Log.{laid};
+ghost use Rattle.writer.specs.Form.{line_fine};
 ghost use Rattle.writer.specs.Made.{packed, blocks_for, file_made};
 ghost use Rattle.writer.specs.Writer.{written_as, written_of, written_in};
 ghost use Rattle.writer.specs.Parts.{InForm, entries_left};
@@ -21,7 +22,7 @@ fn block_count(entries: usize) -> usize
 
 // The blocks after block 0, at the front of a part with room for them: each is filled before the next is opened.
 fn write_later(lines: &[u8], rest: &mut [u8], entries: usize)
-    requires form { InForm lines.now }
+    requires form { InForm line_fine lines.now }
     requires count { entries ≡ length (entries_left lines.now) }
     requires few { entries ≤ 5334 }
     requires room { 512 * blocks_for entries ≤ length rest.old }
@@ -40,7 +41,7 @@ fn write_later(lines: &[u8], rest: &mut [u8], entries: usize)
 
 // The file, where the output has room for it.
 fn write_file(start: Start, lines: &[u8], entries: usize, out: &mut [u8])
-    requires form { InForm lines.now }
+    requires form { InForm line_fine lines.now }
     requires count { entries ≡ length (entries_left lines.now) }
     requires few { entries ≤ 5334 }
     requires room { 512 + 512 * blocks_for entries ≤ length out.old }

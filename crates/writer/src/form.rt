@@ -1,6 +1,6 @@
 // The lines of a text, without their newlines.
 ghost use Rattle.std.specs.Prelude.{◌≡◌, ◌≢◌, ◌∷◌, IfNone, IfSome, slice_index};
-ghost use Rattle.writer.specs.Parts.{process_of, plain_of, store_of, fields_of, line_of, opening_of};
+ghost use Rattle.writer.specs.Parts.{letter_in, letter_of, process_of, plain_of, store_of, fields_of, line_of, opening_of};
 
 use crate::Opening;
 use crate::decimal::{read_numeral, read_size};
@@ -36,9 +36,11 @@ fn read_store(rest: &[u8]) -> Option<Entry>
 }
 
 // A line's letter, and what stands behind the space that follows it.
-fn split_letter(line: &[u8]) -> Option<(u8, &[u8])>
-    ensures none { IfNone result (slice_index line.now 1 ≢ 32) }
-    ensures some { IfSome result (λ r. line.now ≡ r.0 ∷ 32 ∷ r.1.now) }
+#[tactic(auto, unfolding(crate::specs::Parts::letter_of))]
+pub fn split_letter(line: &[u8]) -> Option<(u8, &[u8])>
+    ensures { (letter_in result ≡ letter_of line.now)
+        × (IfNone result (slice_index line.now 1 ≢ 32))
+        × (IfSome result (λ r. line.now ≡ r.0 ∷ 32 ∷ r.1.now)) }
 {
     match line {
         [letter, b' ', rest @ ..] => Some((*letter, rest)),

@@ -10,7 +10,7 @@ pub mod decimal;
 pub mod file;
 pub mod find;
 pub mod form;
-mod scan;
+pub mod scan;
 
 pub use file::write_text;
 

@@ -136,10 +136,10 @@ pub(crate) fn scan(text: &[u8]) -> Result<Told, TextRefusal>
 
 // The entry that the next line asks for, and the lines behind it.
 pub(crate) fn next_entry(lines: &[u8]) -> (Entry, &[u8])
-    requires form { InForm lines.now }
+    requires form { InForm line_fine lines.now }
     requires some { 0 < length (entries_left lines.now) }
     ensures entry { entries_left lines.now ≡ result.0 ∷ entries_left result.1.now }
-    ensures form { InForm result.1.now }
+    ensures form { InForm line_fine result.1.now }
     ensures small { result.0.process.0 < 256 }
 {
     let (line, behind) = split_once(lines, b'\n').unwrap();

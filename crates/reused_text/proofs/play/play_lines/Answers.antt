@@ -6,22 +6,22 @@ use Rattle.reused_text.proofs.play.play_lines.Goals as goal
 pub loop-j-init : goal.loop-j-init
 loop-j-init c =
     let h = c.requires in
-    turn_start _ _ _ _ _ h.0 h.1 h.2 h.3 h.4
+    turn_start _ _ _ _ h.ready h.form h.count h.room h.few
 
 pub bounds-st-i : goal.bounds-st-i
-bounds-st-i c = seat_there c.loop-j.invariant c.next_entry-next.result.entry _ c.seat_of-seat.ensures
+bounds-st-i c = seat_there c.loop-j.invariant c.next_entry.result.0 _ c.seat_of-seat.ensures
 
 pub offset_bounds-st-k : goal.offset_bounds-st-k
-offset_bounds-st-k c = row_place _ (search_there c.loop-j.invariant c.next_entry-next.result.entry _ c.seat_of-seat.ensures)
+offset_bounds-st-k c = row_place _ (search_there c.loop-j.invariant c.next_entry.result.0 _ c.seat_of-seat.ensures)
 
 pub bounds-st-k : goal.bounds-st-k
-bounds-st-k c = search_there c.loop-j.invariant c.next_entry-next.result.entry _ c.seat_of-seat.ensures
+bounds-st-k c = search_there c.loop-j.invariant c.next_entry.result.0 _ c.seat_of-seat.ensures
 
 pub bounds-st-i-in-loop-j : goal.bounds-st-i-in-loop-j
-bounds-st-i-in-loop-j c = seat_there c.loop-j.invariant c.next_entry-next.result.entry _ c.seat_of-seat.ensures
+bounds-st-i-in-loop-j c = seat_there c.loop-j.invariant c.next_entry.result.0 _ c.seat_of-seat.ensures
 
 pub note_of-note-requires : goal.note_of-note-requires
-note_of-note-requires c = answer_small c.loop-j.invariant c.next_entry-next.result.entry _ c.seat_of-seat.ensures _ c.play-r.ensures
+note_of-note-requires c = answer_small c.loop-j.invariant c.next_entry.result.0 _ c.seat_of-seat.ensures _ c.play-r.ensures
 
 pub count-changes-requires : goal.count-changes-requires
 count-changes-requires c = count_low c.loop-j.invariant c.loop-j-test.true
@@ -29,7 +29,7 @@ count-changes-requires c = count_low c.loop-j.invariant c.loop-j-test.true
 pub loop-j-preserved : goal.loop-j-preserved
 loop-j-preserved c =
     turn_next c.loop-j.invariant c.loop-j-test.true
-    _ _ c.next_entry-next.ensures.0 c.next_entry-next.ensures.1
+    _ _ c.next_entry.ensures.entry c.next_entry.ensures.form
     _ c.seat_of-seat.ensures
     _ c.play-r.ensures
     _ c.note_of-note.ensures

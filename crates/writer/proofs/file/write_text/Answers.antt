@@ -1,10 +1,10 @@
 -- What refuses the text, then the room, then the file.
 use Rattle.std.proofs.Common.{arith, ◌≡◌, ℕ, ◌-◌, List, length, take, drop, Ok, Err, refl, ap, ◌∙◌, length-drop}
 use Rattle.std.proofs.lemmas.Result.{err_from_is_err_and}
-use Rattle.std.proofs.Math.Seq.{take_all}
 use Rattle.writer.specs.Types.{TextRefusal}
 use Rattle.writer.specs.Parts.{scanned_as}
 use Rattle.writer.specs.Writer.{written_as}
+use Rattle.writer.proofs.Further.{part_from}
 use Rattle.writer.proofs.Answers.{Accepted, accepted_scan, written_refused, written_short, written_whole}
 use Rattle.writer.proofs.file.write_text.Goals as goal
 use Rattle.writer.proofs.file.write_text.Goals.{In_ok-told}
@@ -18,9 +18,6 @@ returns-in_err-told c =
 -- what is known of an accepted text
 known : (c : In_ok-told) → Accepted c.args.text.now (scanned_as (Ok c.in_ok-told.told))
 known c = accepted_scan c.args.text.now (scanned_as (Ok c.in_ok-told.told)) c.in_ok-told.ensures refl
-
-rest : (text : List ℕ) (from : ℕ) → take (length text - from) (drop from text) ≡ drop from text
-rest text from = take_all (length text - from) (drop from text) (rw length-drop (omega arith))
 
 pub overflow_mul-length : goal.overflow_mul-length
 overflow_mul-length c = omega (arith, c.block_count.ensures, (known ((goal.at.overflow_mul-length c).In_ok-told)).few)
@@ -43,12 +40,12 @@ slice_bounds-write_file-start c = (known ((goal.at.slice_bounds-write_file-start
 pub write_file-requires : goal.write_file-requires
 write_file-requires c =
     let k = known ((goal.at.write_file-requires c).In_ok-told) in
-    let all = rest c.args.text.now c.in_ok-told.told.from in
+    let all = part_from c.args.text.now c.in_ok-told.told.from in
     record { form = rw all k.form; count = rw all k.count; few = k.few; room = rw (← c.block_count.ensures) c.if-out-length.false }
 
 pub returns : goal.returns
 returns c =
     let known = known ((goal.at.returns c).In_ok-told) in
-    let all = rest c.args.text.now c.in_ok-told.told.from in
+    let all = part_from c.args.text.now c.in_ok-told.told.from in
     let told = written_whole c.args.text.now c.args.out.now _ known (rw (← c.block_count.ensures) c.if-out-length.false) (rw (← all) c.write_file.ensures) in
     (rw c.block_count.ensures told.0, told.1)

@@ -5,11 +5,11 @@ use Rattle.writer.proofs.Fields.{head_line}
 use Rattle.writer.proofs.form.read_start.Goals as goal
 
 pub returns-in_err-letter : goal.returns-in_err-letter
-returns-in_err-letter c = c.from_residual.ensures ∙ sym (gap_no_head c.args.line.now c.in_err-letter.ensures.none)
+returns-in_err-letter c = c.from_residual.ensures ∙ sym (gap_no_head c.args.line.now c.in_err-letter.ensures.1)
 
 pub returns-then-letter-eq72 : goal.returns-then-letter-eq72
-returns-then-letter-eq72 c = rw (c.in_ok-letter.ensures.some, c.if-letter-eq72.true, head_line c.in_ok-letter.rest.now) c.read_fields.ensures
+returns-then-letter-eq72 c = rw (c.in_ok-letter.ensures.2, c.if-letter-eq72.true, head_line c.in_ok-letter.rest.now) c.read_fields.ensures
 
 pub returns-else-letter-eq72 : goal.returns-else-letter-eq72
 returns-else-letter-eq72 c =
-    rw c.in_ok-letter.ensures.some (sym (letter_no_head c.in_ok-letter.letter c.in_ok-letter.rest.now c.if-letter-eq72.false))
+    rw c.in_ok-letter.ensures.2 (sym (letter_no_head c.in_ok-letter.letter c.in_ok-letter.rest.now c.if-letter-eq72.false))

@@ -2,26 +2,26 @@
 use Rattle.std.proofs.Common.{◌≡◌, ◌<◌, length, Some, refl, sym, ◌∙◌}
 use Rattle.std.proofs.lemmas.Option.{same_Some}
 use Rattle.text.specs.Lines.{newline}
-use Rattle.writer.specs.Form.{place_of, before, behind, entry_in}
+use Rattle.writer.specs.Form.{place_of, before, behind, line_fine, entry_in}
 use Rattle.writer.proofs.Further.{split_next, line_next, line_read, entries_next, form_next}
 use Rattle.writer.proofs.Within.{entry_small}
 use Rattle.writer.proofs.scan.next_entry.Goals as goal
 use Rattle.writer.proofs.scan.next_entry.Goals.{After-read_line}
 
 pub unwrap-requires : goal.unwrap-requires
-unwrap-requires c = split_next c.args.lines.now c.requires.some c.split_once.result c.split_once.ensures.none
+unwrap-requires c = split_next c.args.lines.now c.requires.some c.split_once.result c.split_once.ensures.1
 
 -- the line and what stands behind it, and what is read of the line
 here : (c : After-read_line)
     → (place_of newline c.args.lines.now < length c.args.lines.now)
     × (c.unwrap.result.0.now ≡ before newline c.args.lines.now) × (c.unwrap.result.1.now ≡ behind newline c.args.lines.now)
-here c = rw c.unwrap.ensures at c.split_once.ensures.some
+here c = rw c.unwrap.ensures at c.split_once.ensures.2
 
 read : (c : After-read_line) → c.read_line.result ≡ Some (entry_in (before newline c.args.lines.now))
 read c =
     let h = here c in
     let line = before newline c.args.lines.now in
-    rw (c.read_line.ensures, h.1) (line_read line (line_next c.args.lines.now h.0 c.requires.form))
+    rw (c.read_line.ensures, h.1) (line_read line (line_next c.args.lines.now h.0 line_fine c.requires.form))
 
 pub unwrap-entry-requires : goal.unwrap-entry-requires
 unwrap-entry-requires c = rw (read c) refl
@@ -35,7 +35,7 @@ returns-clause-entry c =
 pub returns-clause-form : goal.returns-clause-form
 returns-clause-form c =
     let h = here ((goal.at.returns-clause-form c).After-read_line) in
-    rw h.2 (form_next c.args.lines.now h.0 c.requires.form)
+    rw h.2 (form_next c.args.lines.now h.0 line_fine c.requires.form)
 
 pub returns-clause-small : goal.returns-clause-small
 returns-clause-small c =

@@ -7,7 +7,7 @@ use Rattle.writer.proofs.scan.read_further.Goals as goal
 pub returns-then-is_none : goal.returns-then-is_none
 returns-then-is_none g c =
     let e = c.loop-line.entries in
-    let here = c.in-Some.ensures.some in
+    let here = c.in-Some.ensures.2 in
     let form = not_read _ _ c.read_line.ensures (sym c.if-is_none.ensures) in
     sym (c.loop-line.invariant.same ∙ over_outside g.F.TextForm.fine (e + 2) e c.loop-line.rest.now (omega arith) here.0 (rw (← here.1) form))
 
@@ -15,7 +15,7 @@ pub loop-line-preserved : goal.loop-line-preserved
 loop-line-preserved g c =
     let e = c.loop-line.entries in
     let rest = c.loop-line.rest.now in
-    let here = c.in-Some.ensures.some in
+    let here = c.in-Some.ensures.2 in
     let form : g.F.TextForm.fine c.in-Some.line.now ≡ true = was_read _ _ c.read_line.ensures (sym c.if-is_none.ensures) in
     let number : e + 1 + 2 ≡ e + 2 + 1 = omega arith in
     let next = behind_length newline rest here.0 in
@@ -25,7 +25,7 @@ loop-line-preserved g c =
     }
 
 pub loop-line-smaller : goal.loop-line-smaller
-loop-line-smaller g c = let here = c.in-Some.ensures.some in rw here.2 (omega (arith, behind_length newline c.loop-line.rest.now here.0))
+loop-line-smaller g c = let here = c.in-Some.ensures.2 in rw here.2 (omega (arith, behind_length newline c.loop-line.rest.now here.0))
 
 pub returns-then-is_empty : goal.returns-then-is_empty
 returns-then-is_empty g c =
@@ -39,5 +39,5 @@ returns-else-is_empty g c =
     let e = c.loop-line.entries in
     let rest = c.loop-line.rest.now in
     let some = eqb-false (length rest) 0 (sym c.if-is_empty.ensures) in
-    let here = c.in_default.ensures.none in
+    let here = c.in_default.ensures.1 in
     sym (c.loop-line.invariant.same ∙ over_left g.F.TextForm.fine (e + 2) e rest (omega arith) here (omega (arith, some)))

@@ -8,17 +8,17 @@ use Rattle.writer.proofs.Whole.{by_none, by_head, by_err, by_ok, absent}
 use Rattle.writer.proofs.scan.read_text.Goals as goal
 
 pub returns-in_default : goal.returns-in_default
-returns-in_default g c = sym (by_none g.F.TextForm.headed g.F.TextForm.opening g.F.TextForm.fine c.args.text.now c.in_default.ensures.none)
+returns-in_default g c = sym (by_none g.F.TextForm.headed g.F.TextForm.opening g.F.TextForm.fine c.args.text.now c.in_default.ensures.1)
 
 pub returns-in_default-read_start : goal.returns-in_default-read_start
 returns-in_default-read_start g c =
-    let here = c.in-Some.ensures.some in
+    let here = c.in-Some.ensures.2 in
     let not = absent _ _ c.in_default-read_start.ensures in
     sym (by_head g.F.TextForm.headed g.F.TextForm.opening g.F.TextForm.fine c.args.text.now (rw (← here.1) not))
 
 pub returns-in_err-entries : goal.returns-in_err-entries
 returns-in_err-entries g c =
-    let here = c.in-Some.ensures.some in
+    let here = c.in-Some.ensures.2 in
     let head = (cond_some _ _ _ (sym c.in-Some-read_start.ensures)).0 in
     let p = err_from_is_err_and c.from_residual.result c.from_residual.ensures.1 in
     p.1 ∙ ap (λ (k : ℕ). Err k) p.2
@@ -27,7 +27,7 @@ returns-in_err-entries g c =
 pub returns : goal.returns
 returns g c =
     let text = c.args.text.now in
-    let here = c.in-Some.ensures.some in
+    let here = c.in-Some.ensures.2 in
     let head = cond_some _ _ _ (sym c.in-Some-read_start.ensures) in
     let from : length c.in-Some.line.now ≡ place_of newline text = rw here.1 (length-take-le (place_of newline text) text (omega (arith, here.0))) in
     rw (from, ← head.1, here.1)
