@@ -1,5 +1,5 @@
 // An input as a whole.
-ghost use Rattle.std.specs.Prelude.{◌≡◌, ◌<◌, ◌≤◌, [], length, take, IsTrue, IfOk, IsErrOf, IfSome};
+ghost use Rattle.std.specs.Prelude.{◌≡◌, ◌≢◌, ◌<◌, ◌≤◌, [], length, take, IsTrue, IfOk, IfErr, IsErrOf, IfSome};
 ghost use Rattle.std.specs.Io.KnownBytes.{Consumes, IsAtEnd};
 
 use crate::Trouble;
@@ -33,6 +33,7 @@ pub fn read_whole<R: Read>(input: &mut R, buffer: &mut [u8]) -> Result<usize, Tr
     ensures within { IfOk result (λ n. n < length buffer.new) }
     ensures whole { IfOk result (λ n. IfSome (R.remaining input.old) (λ bytes. take n buffer.new ≡ bytes)) }
     ensures full { IsErrOf result Trouble.TooLong → Consumes (R.remaining input.old) (R.remaining input.new) buffer.new }
+    ensures trouble { IfErr result (λ trouble. trouble ≢ Trouble.Writing) }
 {
     let n = read_full(input, buffer);
     if n == buffer.len() {
@@ -44,11 +45,12 @@ pub fn read_whole<R: Read>(input: &mut R, buffer: &mut [u8]) -> Result<usize, Tr
     }
 }
 
-// As much of the input as the buffer has room for, at the front of the buffer, and how many bytes that is. One byte less than the buffer has
-// means that the input is whole.
+// As much of the input as the buffer has room for, at the front of the buffer, and how many bytes that is. Where that is not the whole buffer
+// it is the whole input.
 pub fn read_front<R: Read>(input: &mut R, buffer: &mut [u8]) -> Result<usize, Trouble>
     ensures within { IfOk result (λ n. n ≤ length buffer.new) }
     ensures front { IfOk result (λ n. IfSome (R.remaining input.old) (λ bytes. take n buffer.new ≡ take (length buffer.new) bytes)) }
+    ensures trouble { IfErr result (λ trouble. trouble ≡ Trouble.Reading) }
 {
     match read_whole(input, buffer) {
         Err(Trouble::TooLong) => Ok(buffer.len()),
