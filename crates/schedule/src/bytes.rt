@@ -22,10 +22,16 @@ pub(crate) fn eight(b: &[u8], at: usize) -> u64
     requires { at + 8 ≤ length b.now }
     ensures { result ≡ number_at b.now at 8 }
 {
-    match b[at..].first_chunk::<8>() {
-        Some(x) => u64::from_le_bytes(*x),
-        None => 0,
-    }
+    u64::from_le_bytes([
+        b[at],
+        b[at + 1],
+        b[at + 2],
+        b[at + 3],
+        b[at + 4],
+        b[at + 5],
+        b[at + 6],
+        b[at + 7],
+    ])
 }
 
 // Whether all the bytes of a part of a block are zero. They are added up, with no way out of the loop before its end, so that
