@@ -139,11 +139,9 @@ fn seal_all(blocks: &mut [[u8; 512]]) {
 // Plays a file and prints what came of it behind its name.
 fn try_file(output: &mut impl Write, name: &str, file: &[u8], log: &mut [u8]) -> io::Result<()> {
     output.write_all(name.as_bytes())?;
-    let ran = run(file, log);
-    if ran.number == 0 {
-        write_head(output, log)
-    } else {
-        write_refusal(output, ran.number, ran.block, ran.place)
+    match run(file, log).refused {
+        Ok(()) => write_head(output, log),
+        Err(e) => write_refusal(output, usize::from(e.refusal.number()), e.block, e.place),
     }
 }
 

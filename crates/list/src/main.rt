@@ -21,11 +21,9 @@ fn list(input: &mut impl Read, output: &mut impl Write) -> Result<(), Trouble> {
     let mut file = [0u8; 65537];
     let mut text = zeros::<TEXT_ROOM>();
     let n = read_front(input, &mut file)?;
-    let listed = list_file(&file[..n], &mut text);
-    if listed.number == 0 {
-        output.write_all(&text[..listed.length])?;
-    } else {
-        write_refusal(output, listed.number, listed.block, listed.place)?;
+    match list_file(&file[..n], &mut text) {
+        Ok(length) => output.write_all(&text[..length])?,
+        Err(e) => write_refusal(output, usize::from(e.refusal.number()), e.block, e.place)?,
     }
     Ok(())
 }

@@ -18,11 +18,9 @@ fn play(input: &mut impl Read, output: &mut impl Write) -> Result<(), Trouble> {
     let mut file = [0u8; 65537];
     let mut log = [0u8; 64020];
     let n = read_front(input, &mut file)?;
-    let ran = run(&file[..n], &mut log);
-    if ran.number == 0 {
-        write_log(output, &log)?;
-    } else {
-        write_refusal(output, ran.number, ran.block, ran.place)?;
+    match run(&file[..n], &mut log).refused {
+        Ok(()) => write_log(output, &log)?,
+        Err(e) => write_refusal(output, usize::from(e.refusal.number()), e.block, e.place)?,
     }
     Ok(())
 }
