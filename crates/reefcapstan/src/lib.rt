@@ -1,7 +1,7 @@
 // The door for C: every function that crate `reefcapstan_c` exports, thin over the crates below, and nothing else.
 #![tactic(auto)]
 
-ghost use Rattle.std.specs.Prelude.{◌≡◌, cond, ◌≤◌, eqb};
+ghost use Rattle.std.specs.Prelude.{◌≡◌, ◌≤◌};
 ghost use Rattle.numbers.specs.Refusals.{refusal_number};
 ghost use Rattle.bench.specs.Bench.{log_after};
 ghost use Rattle.writer.specs.Writer.{written_in};
@@ -38,13 +38,6 @@ fn line_detail(line: usize) -> u64
     (line as u64).min(72057594037927935)
 }
 
-// What is told where the number is 0, or where it is not.
-fn by_number(number: usize, done: u64, refused: u64) -> u64
-    ensures { result ≡ cond (eqb number 0) done refused }
-{
-    if number == 0 { done } else { refused }
-}
-
 // Writes the file of a text: number + 256 times the length of the file, or times the line for 25.
 pub fn reefcapstan_write(text: &[u8], out: &mut [u8]) -> u64
     ensures { (result ≡ c_written text.now out.old) × (out.new ≡ written_in text.now out.old) }
@@ -60,7 +53,7 @@ pub fn reefcapstan_list(file: &[u8], out: &mut [u8]) -> u64
     ensures { (result ≡ c_listed file.now out.old) × (out.new ≡ listed_in file.now out.old) }
 {
     match list_file(file, out) {
-        Ok(length) => 256 * length as u64,
+        Ok(bytes) => 256 * bytes as u64,
         Err(e) => u64::from(refusal(e)),
     }
 }

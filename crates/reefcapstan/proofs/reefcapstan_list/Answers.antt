@@ -7,7 +7,7 @@ use Rattle.reefcapstan.proofs.reefcapstan_list.Goals as goal
 
 pub overflow_mul-result : goal.overflow_mul-result
 overflow_mul-result c =
-    let low : ListedLow (listed_as (Ok c.in-Ok.length)) = rw c.in-Ok.ensures.0 (listed_low c.args.file.now c.args.out.now) in
+    let low : ListedLow (listed_as (Ok c.in-Ok.bytes)) = rw c.in-Ok.ensures.0 (listed_low c.args.file.now c.args.out.now) in
     omega (arith, low.length)
 
 pub refusal-requires : goal.refusal-requires
