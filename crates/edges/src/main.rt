@@ -141,7 +141,7 @@ fn try_file(output: &mut impl Write, name: &str, file: &[u8], log: &mut [u8]) ->
     output.write_all(name.as_bytes())?;
     match run(file, log).refused {
         Ok(()) => write_head(output, log),
-        Err(e) => write_refusal(output, usize::from(e.refusal.number()), e.block, e.place),
+        Err(refusal) => write_refusal(output, refusal),
     }
 }
 

@@ -1,26 +1,29 @@
 // Lines, written one after another.
 ghost use Rattle.std.specs.Prelude.{◌%◌, ◌^◌, OnOk};
 ghost use Rattle.std.specs.Io.KnownBytes.{Appends};
+ghost use Rattle.numbers.specs.Refusals.{refusal_number};
 ghost use Rattle.run_log.specs.Found.{head_found};
 ghost use Rattle.text.specs.Lines.{refused_line, refused_text_line, head_text, lines_from, text_of};
 
 use run_log::read::read_head;
+use schedule::FileRefusal;
 use std::io;
 use std::io::Write;
 use text::line::{ROOM, write_head_of, write_refused_line, write_refused_text_line};
 use text::page::write_lines_of;
 
-// The line of a refused file; 0 stands for no place.
-pub fn write_refusal<W: Write>(
-    output: &mut W,
-    number: usize,
-    block: usize,
-    place: usize,
-) -> io::Result<()>
-    ensures { OnOk result (Appends (W.contents output.old) (W.contents output.new) (refused_line number block place)) }
+// The line of a refused file.
+pub fn write_refusal<W: Write>(output: &mut W, refusal: FileRefusal) -> io::Result<()>
+    ensures { OnOk result (Appends (W.contents output.old) (W.contents output.new)
+        (refused_line (refusal_number refusal.refusal) refusal.block refusal.place)) }
 {
+    let FileRefusal {
+        refusal,
+        block,
+        place,
+    } = refusal;
     let mut line = [0u8; ROOM];
-    let n = write_refused_line(&mut line, number, block, place);
+    let n = write_refused_line(&mut line, usize::from(refusal.number()), block, place);
     output.write_all(&line[..n])
 }
 

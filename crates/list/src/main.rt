@@ -23,7 +23,7 @@ fn list(input: &mut impl Read, output: &mut impl Write) -> Result<(), Trouble> {
     let n = read_front(input, &mut file)?;
     match list_file(&file[..n], &mut text) {
         Ok(length) => output.write_all(&text[..length])?,
-        Err(e) => write_refusal(output, usize::from(e.refusal.number()), e.block, e.place)?,
+        Err(refusal) => write_refusal(output, refusal)?,
     }
     Ok(())
 }

@@ -20,7 +20,7 @@ fn play(input: &mut impl Read, output: &mut impl Write) -> Result<(), Trouble> {
     let n = read_front(input, &mut file)?;
     match run(&file[..n], &mut log).refused {
         Ok(()) => write_log(output, &log)?,
-        Err(e) => write_refusal(output, usize::from(e.refusal.number()), e.block, e.place)?,
+        Err(refusal) => write_refusal(output, refusal)?,
     }
     Ok(())
 }
