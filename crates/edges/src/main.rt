@@ -94,19 +94,28 @@ fn lay_first(block: &mut [u8; 512], first: First) {
     block[509] = first.high;
 }
 
+// The kinds of an entry, as a file has them.
+const LOAD: u8 = 1;
+
+const STORE: u8 = 2;
+
+const CHECK: u8 = 3;
+
+const STEP: u8 = 4;
+
 // "LL by 1, three steps of 1, SC 40 by 1, four steps of 1, VL by 0, one step of 0", each entry by its kind, process and value.
 const FULL_RUN: [(u8, u8, u8); 11] = [
-    (1, 1, 0),
-    (4, 1, 0),
-    (4, 1, 0),
-    (4, 1, 0),
-    (2, 1, 40),
-    (4, 1, 0),
-    (4, 1, 0),
-    (4, 1, 0),
-    (4, 1, 0),
-    (3, 0, 0),
-    (4, 0, 0),
+    (LOAD, 1, 0),
+    (STEP, 1, 0),
+    (STEP, 1, 0),
+    (STEP, 1, 0),
+    (STORE, 1, 40),
+    (STEP, 1, 0),
+    (STEP, 1, 0),
+    (STEP, 1, 0),
+    (STEP, 1, 0),
+    (CHECK, 0, 0),
+    (STEP, 0, 0),
 ];
 
 // A later block with these entries.

@@ -13,12 +13,15 @@ const LIST: Program = Program {
     output: "output",
 };
 
+// One byte more than the longest file.
+const FILE_ROOM: usize = 65_537;
+
 // Bytes that are enough for the text of every file (proved: text_most).
 const TEXT_ROOM: usize = 234_761;
 
 // An input longer than the longest file fills the buffer, whose length no file has: it is refused by 1 like any other length.
 fn list(input: &mut impl Read, output: &mut impl Write) -> Result<(), Trouble> {
-    let mut file = [0u8; 65537];
+    let mut file = [0u8; FILE_ROOM];
     let mut text = zeros::<TEXT_ROOM>();
     let n = read_front(input, &mut file)?;
     match list_file(&file[..n], &mut text) {

@@ -13,10 +13,16 @@ const PLAY: Program = Program {
     output: "output",
 };
 
+// One byte more than the longest file.
+const FILE_ROOM: usize = 65_537;
+
+// The log of 5,334 entries, as many as a file may have.
+const LOG_ROOM: usize = 64_020;
+
 // An input longer than the longest file fills the buffer, whose length no file has: it is refused by 1 like any other length.
 fn play(input: &mut impl Read, output: &mut impl Write) -> Result<(), Trouble> {
-    let mut file = [0u8; 65537];
-    let mut log = [0u8; 64020];
+    let mut file = [0u8; FILE_ROOM];
+    let mut log = [0u8; LOG_ROOM];
     let n = read_front(input, &mut file)?;
     match run(&file[..n], &mut log).refused {
         Ok(()) => write_log(output, &log)?,

@@ -17,13 +17,16 @@ const WRITE: Program = Program {
 // One byte more than the longest text that is taken.
 const TEXT_ROOM: usize = 1_048_577;
 
+// The longest file.
+const FILE_ROOM: usize = 65_536;
+
 fn write(
     input: &mut impl Read,
     output: &mut impl Write,
     errors: &mut impl Write,
 ) -> Result<(), Trouble> {
     let mut text = zeros::<TEXT_ROOM>();
-    let mut file = [0u8; 65536];
+    let mut file = [0u8; FILE_ROOM];
     let n = read_whole(input, &mut text)?;
     match write_text(&text[..n], &mut file) {
         Ok(length) => output.write_all(&file[..length])?,
