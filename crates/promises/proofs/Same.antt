@@ -1,14 +1,15 @@
 -- From a promise that is an equation to the equality of two answers that meet it.
 use Prim.Native.Nat.{ℕ}
-use mathlib.Core.Path.{◌≡◌, sym, ◌∙◌, ap}
+use mathlib.Core.Path.{◌≡◌, refl, sym, ◌∙◌, ap}
 use mathlib.Core.Logic.{∥∥₁_elim}
 use mathlib.Core.List.{List}
-use base.Stored.{Coded, Coded-set, coded_list, coded_ℕ}
+use base.Stored.{Coded, Coded-set, coded_list, coded_via, coded_ℕ}
 use contract.Lifetimes.{Lfts}
 use contract.Monad.{fact}
 use denote.Signature.{type_at}
 use denote.Triple.Clauses.{Ended, Lasts}
 use denote.Triple.Entry.{Args, Res}
+use Rattle.std.specs.Prelude.{Option, Some, None, option_to_list}
 use Rattle.promises.specs.Determined.{Promise, Meets}
 
 module _ {M : Type 1} {T : Ended} {c : Promise M T} {κs : Lfts T.signature.lifetimes} {a : Args T.signature κs}
@@ -43,11 +44,27 @@ module _ {M : Type 1} {T : Ended} {c : Promise M T} {κs : Lfts T.signature.life
       → (fact l.𝓤 ((l.result ≡ r) × (y ≡ z))).holds l.resource → (k.result ≡ l.result) × (f x ≡ f y)
   same_both f p q = (same_result_too p q, ap f (told (coded_list coded_ℕ) (λ d e. d.1 ∙ sym e.1) p q))
 
-  pub same_told_both : {X : Type 0} (told : Res T.signature κs → X) → ((x y : Res T.signature κs) → told x ≡ told y → x ≡ y) → (f : List ℕ → Lasts T κs a)
+  pub same_told_both : {X : Type 0} (tell : Res T.signature κs → X) → ((x y : Res T.signature κs) → tell x ≡ tell y → x ≡ y) → (f : List ℕ → Lasts T κs a)
       → {r : X} {x y z : List ℕ}
-      → (fact k.𝓤 ((told k.result ≡ r) × (x ≡ z))).holds k.resource
-      → (fact l.𝓤 ((told l.result ≡ r) × (y ≡ z))).holds l.resource → (k.result ≡ l.result) × (f x ≡ f y)
-  same_told_both t one f p q = (
+      → (fact k.𝓤 ((tell k.result ≡ r) × (x ≡ z))).holds k.resource
+      → (fact l.𝓤 ((tell l.result ≡ r) × (y ≡ z))).holds l.resource → (k.result ≡ l.result) × (f x ≡ f y)
+  same_told_both tell one f p q = (
     told (type_at T.signature.result κs).coded (λ d e. one k.result l.result (d.0 ∙ sym e.0)) p q,
     ap f (told (coded_list coded_ℕ) (λ d e. d.1 ∙ sym e.1) p q),
   )
+
+  -- the promise is an equation for what stands in the parts of a slice that the result has, and more
+  pub same_seen : {X : Type 0} → Coded X → (see : Res T.signature κs → X) → {z : X} {φ χ ψ ω : Type 0}
+      → (fact k.𝓤 ((see k.result ≡ z) × φ × χ)).holds k.resource
+      → (fact l.𝓤 ((see l.result ≡ z) × ψ × ω)).holds l.resource → see k.result ≡ see l.result
+  same_seen code see = told code (λ d e. d.0 ∙ sym e.0)
+
+-- what a list of at most one is tells an Option
+coded_one : {A : Type 0} (x y : Option A) → option_to_list x ≡ option_to_list y → x ≡ y
+coded_one None None h = refl
+coded_one None (Some y) h = cc
+coded_one (Some x) None h = cc
+coded_one (Some x) (Some y) h = cc
+
+pub coded_option : {A : Type 0} → Coded A → Coded (Option A)
+coded_option a = coded_via (coded_list a) option_to_list coded_one

@@ -30,8 +30,7 @@ pub(crate) fn next_entry(lines: &[u8]) -> (Entry, &[u8])
 pub(crate) fn seat_of(n: usize, p: Process) -> Process
     ensures { result ≡ seat_of n p }
 {
-    let i = p.0;
-    if i < n { p } else { Process(0) }
+    if p.0 < n { p } else { Process(0) }
 }
 
 fn bit_number(bit: bool) -> u64
@@ -46,18 +45,13 @@ pub(crate) fn note_of(process: u8, kind: Kind, place: Place, outcome: Outcome) -
     ensures { result ≡ record_from process kind place outcome }
 {
     let told = Told::from(outcome);
-    let steps = steps_by(place, kind, outcome);
-    let number = told.number;
     let stored = told.value;
-    let whose = stored.process;
-    let mark = whose.0 as u8;
-    let value = bit_number(stored.bit);
     Note {
-        outcome: number,
-        process: process,
-        steps: steps,
-        mark: mark,
-        value: value,
+        outcome: told.number,
+        process,
+        steps: steps_by(place, kind, outcome),
+        mark: stored.process.0 as u8,
+        value: bit_number(stored.bit),
     }
 }
 
@@ -66,11 +60,9 @@ pub(crate) fn count(changes: Version, before: Triple, after: Triple) -> Version
     requires { changes.0 < 4294967295 }
     ensures { result.0 ≡ changes.0 + cond (not (same_triple before after)) 1 0 }
 {
-    let so_far = changes.0;
-    let changed = x_changed(before, after);
-    if changed {
-        let more = so_far + 1;
-        return Version(more);
+    if x_changed(before, after) {
+        Version(changes.0 + 1)
+    } else {
+        changes
     }
-    Version(so_far)
 }

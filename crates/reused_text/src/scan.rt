@@ -11,6 +11,9 @@ use reused::opening::check_sizes;
 use writer::TextRefusal;
 use writer::scan::{Read, TextForm, read_text};
 
+// So many entries the four bytes of a log's head can count.
+const MOST_ENTRIES: usize = 4294967295;
+
 // The form of document 02, P9.
 pub struct BitTexts;
 
@@ -43,7 +46,7 @@ fn judge(read: Read<Sizes>) -> Result<Told, TextRefusal>
     ensures { scanned_as result ≡ judged read.opening read.from read.entries }
 {
     check_sizes(read.opening.n, read.opening.m)?;
-    if read.entries > 4294967295 {
+    if read.entries > MOST_ENTRIES {
         return Err(TextRefusal::from(Refusal::TooMany));
     }
     Ok(Told {

@@ -26,7 +26,9 @@ impl From<Refusal> for TextRefusal {
 
     ghost from_gives = { λ refusal e. e ≡ record { refusal = refusal; line = 0 } };
 
-    fn from(refusal: Refusal) -> TextRefusal {
+    fn from(refusal: Refusal) -> TextRefusal
+        ensures { result ≡ record { refusal = refusal; line = 0 } }
+    {
         TextRefusal { refusal, line: 0 }
     }
 }

@@ -1,13 +1,12 @@
 -- An entry is left, so the next line has its newline; and it is in the form.
-use Rattle.std.proofs.Common.{◌≡◌, ◌<◌, List, length, map, Some, refl, sym, ap, ◌∙◌}
+use Rattle.std.proofs.Common.{◌≡◌, ◌<◌, length, map, Some, refl, sym, ap, ◌∙◌}
 use Rattle.std.proofs.lemmas.List.{length-map}
 use Rattle.std.proofs.lemmas.Option.{same_Some}
 use Rattle.text.specs.Lines.{newline}
 use Rattle.writer.specs.Form.{place_of, before, behind}
-use Rattle.writer.specs.Parts.{entries_left}
 use Rattle.writer.proofs.Further.{split_next, line_next, entries_next, form_next}
 use Rattle.reused_text.specs.Form.{line_fine, entry_in}
-use Rattle.reused_text.specs.Parts.{bit_entry_in, bit_line_of}
+use Rattle.reused_text.specs.Parts.{bit_entry_in}
 use Rattle.reused_text.proofs.Entries.{entry_seat, bit_line_read}
 use Rattle.reused_text.proofs.entry.next_entry.Goals as goal
 use Rattle.reused_text.proofs.entry.next_entry.Goals.{After-read_bit_line}

@@ -1,5 +1,5 @@
 -- What refuses the text, then the room, then the file.
-use Rattle.std.proofs.Common.{arith, ◌≡◌, ℕ, ◌-◌, List, length, take, drop, Ok, Err, refl, ap, ◌∙◌, length-drop}
+use Rattle.std.proofs.Common.{arith, Ok, Err, refl, ap, ◌∙◌}
 use Rattle.std.proofs.lemmas.Result.{err_from_is_err_and}
 use Rattle.writer.specs.Types.{TextRefusal}
 use Rattle.writer.specs.Parts.{scanned_as}
