@@ -4,8 +4,8 @@ use mathlib.Core.Path.{◌≡◌, sym, ap, ◌∙◌}
 use mathlib.Core.Bool.{true}
 use mathlib.Core.List.{List, ◌++◌, map}
 use native.Mathlib.Omega.{arith}
-use lib.ListN.{length, take, drop, length-append, length-drop}
-use lib.Seq.{take_at, drop_at, drop-drop}
+use lib.ListN.{length, take, drop, length-append}
+use lib.Seq.{drop_at, drop-drop, length-take-le}
 use Rattle.numbers.specs.Numbers.{in_range}
 use Rattle.numbers.proofs.First.{range_zero}
 use Rattle.machine.specs.State.{StartGiven, first_state, start_of, started_as}
@@ -65,15 +65,12 @@ module _ (f : List ℕ) (n s v c : ℕ) (is : reading f ≡ Accepted n s v c) wh
         let long = notes_length started.state (file_entries f) in
         rw goes (omega (arith, most, long, entry_count, few_entries))
 
-    module _ (log : List ℕ) (room : log_length c ≤ length log) (first : List ℕ) (lays : first ≡ laid (head_of c 0 n) log) where
-      head_there : first ≡ head_of c 0 n ++ drop 12 log
-      head_there = lays ∙ laid_fits (head_of c 0 n) log (omega (arith, head_length c 0 n)) ∙ rw (head_length c 0 n)
-
-      pub rest_there : 12 * length (file_entries f) ≤ length first - 12
-      rest_there = rw (head_there, length-append, head_length c 0 n, length-drop) (omega (arith, entry_count))
+    module _ (log : List ℕ) (room : log_length c ≤ length log) where
+      pub rest_there : 12 * length (file_entries f) ≤ length log - 12
+      rest_there = omega (arith, room, entry_count)
 
       module _ (played : Played) (goes : played ≡ played_from from (file_entries f)) (back : List ℕ)
-          (writes : back ≡ records_from from (file_entries f) (take (length first - 12) (drop 12 first))) where
+          (writes : back ≡ records_from from (file_entries f) (take (length log - 12) (drop 12 log))) where
         pub last_is : played.state ≡ last_state f n s v
         unfolding played_from last_state
         last_is = rw (goes, began)
@@ -81,20 +78,21 @@ module _ (f : List ℕ) (n s v c : ℕ) (is : reading f ≡ Accepted n s v c) wh
         abbrev behind : List ℕ
         behind = records_of (map in_log (notes_of f n s v)) ++ drop (12 + 12 * length (file_entries f)) log
 
-        records_there : take 12 first ++ (back ++ drop (length first - 12) (drop 12 first)) ≡ head_of c 0 n ++ behind
+        records_there : take 12 log ++ (back ++ drop (length log - 12) (drop 12 log)) ≡ take 12 log ++ behind
         unfolding records_from notes_of
-        records_there =
-            tail_back first back 12
-            ∙ rw (writes, tail_given, head_there, take_at (head_of c 0 n) (drop 12 log) 12 (head_length c 0 n), drop_at (head_of c 0 n) (drop 12 log) 12 (head_length c 0 n), drop-drop, began)
+        records_there = tail_back log back 12 ∙ rw (writes, tail_given, drop-drop, began)
 
-        pub log_is : (last : List ℕ) → last ≡ laid (head_of c played.changes.0 n) (take 12 first ++ (back ++ drop (length first - 12) (drop 12 first)))
+        front : length (take 12 log) ≡ 12
+        front = length-take-le 12 log (omega (arith, room))
+
+        pub log_is : (last : List ℕ) → last ≡ laid (head_of c played.changes.0 n) (take 12 log ++ (back ++ drop (length log - 12) (drop 12 log)))
             → last ≡ written (notes_of f n s v) n log
         unfolding played_from notes_of
         log_is last lays-last =
             lays-last
             ∙ rw records_there
-            (laid_fits head (head_of c 0 n ++ behind) (rw (length-append, head_length c 0 n, head_length c played.changes.0 n) (omega arith))
-            ∙ rw (head_length c played.changes.0 n, drop_at (head_of c 0 n) behind 12 (head_length c 0 n)) (rw (counted, count_is, long)))
+            (laid_fits head (take 12 log ++ behind) (rw (length-append, front, head_length c played.changes.0 n) (omega arith))
+            ∙ rw (head_length c played.changes.0 n, drop_at (take 12 log) behind 12 front) (rw (counted, count_is, long)))
           where
             head : List ℕ
             head = head_of c played.changes.0 n

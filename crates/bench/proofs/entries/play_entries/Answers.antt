@@ -5,6 +5,7 @@ use Rattle.schedule.specs.Direct.{used_part}
 use Rattle.schedule.proofs.AcceptedFile.{accepted_length}
 use Rattle.bench.proofs.Turn.{chunk_fields, turn_next, seat_there, row_there, count_low}
 use Rattle.bench.proofs.Walk.{walk_start, walk_next, walk_end, block_start}
+use Rattle.bench.proofs.entries.play_entries.Goals.{After-reached_row-reached}
 use Rattle.bench.proofs.entries.play_entries.Goals as goal
 
 pub loop-k-init : goal.loop-k-init
@@ -16,23 +17,27 @@ loop-bytes-init c =
     let this : c.loop-k.k - 1 + 1 ≡ c.loop-k.k = omega (arith, c.loop-k.auto.k) in
     block_start c.loop-k.invariant (omega (arith, c.loop-k.auto.k, c.loop-k-test.true)) b (used_part b) (rw this) refl
 
+-- the row that is reached is one of the 16
+reach : (c : After-reached_row-reached) → c.reached_row-reached.result.0 < 16
+reach c = row_there c.loop-bytes.invariant c.read_fields-entry.result _ c.seat_of-seat.ensures _ c.fresh-own.ensures _ c.reached_row-reached.ensures
+
 pub bounds-records-seat : goal.bounds-records-seat
 bounds-records-seat c = seat_there c.loop-bytes.invariant c.read_fields-entry.result _ c.seat_of-seat.ensures
 
-pub bounds-rows-reached : goal.bounds-rows-reached
-bounds-rows-reached c = row_there c.loop-bytes.invariant c.read_fields-entry.result _ c.seat_of-seat.ensures _ c.fresh-own.ensures _ c.reached_row-reached.ensures
-
-pub offset_bounds-rows-reached : goal.offset_bounds-rows-reached
-offset_bounds-rows-reached c = omega (arith, row_there c.loop-bytes.invariant c.read_fields-entry.result _ c.seat_of-seat.ensures _ c.fresh-own.ensures _ c.reached_row-reached.ensures)
-
-pub bounds-rows-reached-in-loop-bytes : goal.bounds-rows-reached-in-loop-bytes
-bounds-rows-reached-in-loop-bytes c = row_there c.loop-bytes.invariant c.read_fields-entry.result _ c.seat_of-seat.ensures _ c.fresh-own.ensures _ c.reached_row-reached.ensures
-
-pub offset_bounds-rows-reached-in-loop-bytes : goal.offset_bounds-rows-reached-in-loop-bytes
-offset_bounds-rows-reached-in-loop-bytes c = omega (arith, row_there c.loop-bytes.invariant c.read_fields-entry.result _ c.seat_of-seat.ensures _ c.fresh-own.ensures _ c.reached_row-reached.ensures)
-
 pub bounds-records-seat-in-loop-bytes : goal.bounds-records-seat-in-loop-bytes
 bounds-records-seat-in-loop-bytes c = seat_there c.loop-bytes.invariant c.read_fields-entry.result _ c.seat_of-seat.ensures
+
+pub bounds-rows-reached : goal.bounds-rows-reached
+bounds-rows-reached c = reach (goal.at.bounds-rows-reached c).After-reached_row-reached
+
+pub offset_bounds-rows-reached : goal.offset_bounds-rows-reached
+offset_bounds-rows-reached c = omega (arith, reach (goal.at.offset_bounds-rows-reached c).After-reached_row-reached)
+
+pub bounds-rows-reached-in-loop-bytes : goal.bounds-rows-reached-in-loop-bytes
+bounds-rows-reached-in-loop-bytes c = reach (goal.at.bounds-rows-reached-in-loop-bytes c).After-reached_row-reached
+
+pub offset_bounds-rows-reached-in-loop-bytes : goal.offset_bounds-rows-reached-in-loop-bytes
+offset_bounds-rows-reached-in-loop-bytes c = omega (arith, reach (goal.at.offset_bounds-rows-reached-in-loop-bytes c).After-reached_row-reached)
 
 pub count-changes-requires : goal.count-changes-requires
 count-changes-requires c =

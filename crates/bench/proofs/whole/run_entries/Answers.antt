@@ -5,8 +5,8 @@ use Rattle.run_log.proofs.Laws.{tail_given}
 use Rattle.bench.proofs.WholeRun.{accepted, entry_count, few_entries, start_ready, rest_there, last_is, log_is}
 use Rattle.bench.proofs.whole.run_entries.Goals as goal
 
-pub overflow_cast-count : goal.overflow_cast-count
-overflow_cast-count c = omega (arith, few_entries c.args.file.now c.args.start.n c.args.start.s c.args.start.v c.args.entries c.requires.0)
+pub overflow_cast-entries : goal.overflow_cast-entries
+overflow_cast-entries c = omega (arith, few_entries c.args.file.now c.args.start.n c.args.start.s c.args.start.v c.args.entries c.requires.0)
 
 pub play_entries-played-requires : goal.play_entries-played-requires
 play_entries-played-requires c =
@@ -20,7 +20,7 @@ play_entries-played-requires c =
     let is = c.requires.0 in (
       accepted f n s v k is,
       start_ready f n s v k is _ begun,
-      rw (tail_given, length-drop) (rest_there f n s v k is _ begun _ c.requires.1 _ c.lay_head.ensures),
+      rw (tail_given, length-drop) (rest_there f n s v k is _ begun _ c.requires.1),
       omega (arith, entry_count f n s v k is, few_entries f n s v k is),
     )
 
@@ -35,6 +35,6 @@ returns c =
     c.start-started.ensures ∙ ap (λ (m : ℕ). start_of m (record { 0 = s }) v) c.from.ensures in
     let is = c.requires.0 in
     let played = c.play_entries-played.ensures in (
-      last_is f n s v k is _ begun _ c.requires.1 _ c.lay_head.ensures _ played.0 _ played.1,
-      log_is f n s v k is _ begun _ c.requires.1 _ c.lay_head.ensures _ played.0 _ played.1 _ c.lay_head-2.ensures,
+      last_is f n s v k is _ begun _ c.requires.1 _ played.0 _ played.1,
+      log_is f n s v k is _ begun _ c.requires.1 _ played.0 _ played.1 _ c.lay_head.ensures,
     )
