@@ -8,7 +8,7 @@ ghost use Rattle.bench.specs.Play.{played_from, records_from};
 use crate::Played;
 use crate::note::{count, note_of};
 use machine::State;
-use machine::parts::{play_coded, seat_of, steps_ahead};
+use machine::parts::{play_coded, steps_ahead};
 use numbers::Process;
 use run_log::write::write_record;
 use schedule::{block_of, read_fields, used_entries};
@@ -34,7 +34,7 @@ pub(crate) fn play_entries(file: &[u8], rest: &mut [u8], from: Played) -> Played
         for bytes in used_entries(block_of(file, k)).as_chunks().0 {
             let entry = read_fields(bytes);
             let process = Process(entry.process as usize);
-            let seat = seat_of(n, process);
+            let seat = process.seat(n);
             let own = records[seat.0].fresh();
             let reached = own.reached_row(seat);
             // The own steps are counted before the step, by its place: behind it the count would be one more jump at every place.

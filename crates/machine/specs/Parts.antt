@@ -4,10 +4,8 @@ use Rattle.std.specs.Prelude.{ℕ, cond, eqb, ltb}
 use Rattle.machine.specs.Types.{Process, Sequence, Tag, Row, Record, Place, Kind, Ask, Step, Request, Load, Store, Check, Stepped, NoProcess}
 use Rattle.step.specs.Steps.{as_was, own_steps}
 use Rattle.machine.specs.Entry.{parts_after}
-
 -- a process that is not there is given the first record, and 11
-abbrev pub seat_of : ℕ → Process → Process
-seat_of n p = cond (ltb p.0 n) p (record { 0 = 0 })
+pub use Rattle.numbers.specs.Numbers.{seat_of}
 
 unfoldable pub played_parts : ℕ → Sequence → Process → Tag → Record → Row → Kind → Stepped
 played_parts n s p x own row kind = cond (ltb p.0 n) (parts_after s p x own row kind) (as_was x own row NoProcess)

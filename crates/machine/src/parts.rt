@@ -4,17 +4,10 @@
 ghost use Rattle.std.specs.Prelude.{◌≡◌};
 ghost use Rattle.step.specs.Steps.{request_of};
 ghost use Rattle.machine.specs.Entry.{row_given, with_parts, parts_after};
-ghost use Rattle.machine.specs.Parts.{seat_of, played_parts, request_by, kind_by, steps_ahead};
+ghost use Rattle.machine.specs.Parts.{played_parts, request_by, kind_by, steps_ahead};
 
 use numbers::{Process, Sequence};
 use step::{Kind, Outcome, Parts, Place, Record, Request, Requested, Stepped};
-
-// Whose record an entry of process p is given: p's, and for a process that is not there the first.
-pub fn seat_of(n: usize, p: Process) -> Process
-    ensures { result ≡ seat_of n p }
-{
-    if p.0 < n { p } else { Process(0) }
-}
 
 // Whose row it is given in a direct call: a step's is the one that it reaches, a request's its own.
 pub(crate) fn row_given(p: Process, own: Record, kind: Kind) -> Process

@@ -1,6 +1,6 @@
 -- The ranges of N and S, and the first number that is found; sums, tests and lists over the numbers below a bound; and numbers as bytes.
-use Rattle.std.specs.Prelude.{ℕ, zero, suc, ◌+◌, ◌*◌, ◌/◌, ◌%◌, Bool, ◌&&◌, true, cond, eqb, leb, List, [], ◌∷◌, ◌++◌, get_or}
-use Rattle.numbers.specs.Types.{Sequence}
+use Rattle.std.specs.Prelude.{ℕ, zero, suc, ◌+◌, ◌*◌, ◌/◌, ◌%◌, Bool, ◌&&◌, true, cond, eqb, ltb, leb, List, [], ◌∷◌, ◌++◌, get_or}
+use Rattle.numbers.specs.Types.{Process, Sequence}
 
 -- "N is the number of processes, 1 to 16."
 abbrev pub in_range_n : ℕ → Bool
@@ -12,6 +12,10 @@ in_range_s s = leb 2 s.0 && leb s.0 4294967295
 
 abbrev pub in_range : ℕ → Sequence → Bool
 in_range n s = in_range_n n && in_range_s s
+
+-- whose seat among n an entry of process p is given: p's, and for a process that is not there the first
+abbrev pub seat_of : ℕ → Process → Process
+seat_of n p = cond (ltb p.0 n) p (record { 0 = 0 })
 
 -- the number that is given unless something is fine; 0 stands for nothing found
 abbrev pub number_unless : Bool → ℕ → ℕ

@@ -3,12 +3,21 @@
 #![tactic(auto)]
 
 ghost use Rattle.std.specs.Prelude.{◌≡◌};
-ghost use Rattle.numbers.specs.Numbers.{in_range_n, in_range_s, in_range, range_number};
+ghost use Rattle.numbers.specs.Numbers.{seat_of, in_range_n, in_range_s, in_range, range_number};
 ghost use Rattle.numbers.specs.Refusals.{refusal_number, number_in};
 
 // A process number, a sequence number and a count of changes are three types, so that none is taken for another.
 #[derive(Clone, Copy, PartialEq, Eq, PartialOrd, Ord)]
 pub struct Process(pub usize);
+
+impl Process {
+    // Whose seat among n an entry of this process is given: its own, and for a process that is not there the first.
+    pub fn seat(self, n: usize) -> Process
+        ensures { result ≡ seat_of n self }
+    {
+        if self.0 < n { self } else { Process(0) }
+    }
+}
 
 #[derive(Clone, Copy, PartialEq, Eq, PartialOrd, Ord)]
 pub struct Sequence(pub u64);

@@ -4,6 +4,7 @@ use Rattle.promises.specs.Determined.{Determined}
 use Rattle.promises.proofs.Same.{same_result, same_told}
 use Rattle.numbers.specs.Refusals.{number_in}
 use Rattle.numbers.proofs.Refusals.{same_answer}
+use Rattle.numbers.specs.contracts.Process.seat
 use Rattle.numbers.specs.contracts.Refusal.number
 use Rattle.numbers.specs.contracts.check_range
 use Rattle.numbers.specs.contracts.in_range
@@ -18,6 +19,9 @@ module _ {M : Type 1} where
 
   pub check_range_determined : Determined M check_range.ended (λ 𝓤. check_range.clauses {𝓤 = 𝓤}) (λ 𝓤. check_range.spec {𝓤 = 𝓤})
   check_range_determined = (λ 𝓤 𝓛 mem run. refl, λ κs a k l. (same_told k l number_in same_answer k.met l.met, refl))
+
+  pub process_seat_determined : Determined M seat.ended (λ 𝓤. seat.clauses {𝓤 = 𝓤}) (λ 𝓤. seat.spec {𝓤 = 𝓤})
+  process_seat_determined = (λ 𝓤 𝓛 mem run. refl, λ κs a k l. (same_result k l k.met l.met, refl))
 
   pub refusal_number_determined : Determined M number.ended (λ 𝓤. number.clauses {𝓤 = 𝓤}) (λ 𝓤. number.spec {𝓤 = 𝓤})
   refusal_number_determined = (λ 𝓤 𝓛 mem run. refl, λ κs a k l. (same_result k l k.met l.met, refl))

@@ -1,6 +1,7 @@
 -- The run of a text: the record of each entry in the log's form, every byte of the lent log, and what is printed.
-use Rattle.std.specs.Prelude.{ℕ, ◌*◌, Bool, true, false, cond, Result, Ok, Err, List, ◌++◌, map, eqb, ltb, leb, length, drop}
+use Rattle.std.specs.Prelude.{ℕ, ◌*◌, Bool, true, false, cond, Result, Ok, Err, List, ◌++◌, map, eqb, leb, length, drop}
 use Rattle.numbers.specs.Refusals.{refusal_number}
+pub use Rattle.numbers.specs.Numbers.{seat_of}
 use Rattle.run_log.specs.Log.{records_of, laid, log_length}
 use Rattle.run_log.specs.Found.{log_of}
 use Rattle.text.specs.Lines.{head_line, lines_of, refused_text_line}
@@ -60,11 +61,8 @@ reuse_text text =
     (head_line (length (text_notes text)) (change_count (text_notes text)) (text_n text) ++ lines_of 0 (map in_log (text_notes text)))
     (refused_text_line (text_number text) (outside text))
 
--- What the inner functions promise: whose row an entry is given, p's or, for a process that is not there, the first;
-abbrev pub seat_of : ℕ → Process → Process
-seat_of n p = cond (ltb p.0 n) p (record { 0 = 0 })
-
--- the record of an entry of process p, from the place before it and its outcome;
+-- What the inner functions promise, beside `seat_of` (whose row an entry is given): the record of an entry of process p, from the place
+-- before it and its outcome;
 abbrev pub record_from : ℕ → Kind → Place → Outcome → Note
 record_from p kind place outcome =
     record {

@@ -4,10 +4,10 @@ ghost use Rattle.reused.specs.Steps.{same_triple, told_of};
 ghost use Rattle.writer.specs.Parts.{InForm};
 ghost use Rattle.reused_text.specs.Form.{line_fine};
 ghost use Rattle.reused_text.specs.Parts.{bit_entries_left};
-ghost use Rattle.reused_text.specs.Played.{bit_number, seat_of, record_from};
+ghost use Rattle.reused_text.specs.Played.{bit_number, record_from};
 
 use crate::form::read_bit_line;
-use numbers::{Process, Version};
+use numbers::Version;
 use reused::play::{steps_by, x_changed};
 use reused::{Entry, Kind, Outcome, Place, Told, Triple};
 use run_log::Note;
@@ -24,13 +24,6 @@ pub(crate) fn next_entry(lines: &[u8]) -> (Entry, &[u8])
     let (line, behind) = split_once(lines, b'\n').unwrap();
     let entry = read_bit_line(line).unwrap();
     (entry, behind)
-}
-
-// Whose row an entry of process p is given: p's, and for a process that is not there the first.
-pub(crate) fn seat_of(n: usize, p: Process) -> Process
-    ensures { result ≡ seat_of n p }
-{
-    if p.0 < n { p } else { Process(0) }
 }
 
 fn bit_number(bit: bool) -> u64

@@ -6,7 +6,7 @@ ghost use Rattle.reused_text.specs.Form.{line_fine};
 ghost use Rattle.reused_text.specs.Parts.{bit_entries_left};
 ghost use Rattle.reused_text.specs.Played.{changes_from, records_from};
 
-use crate::entry::{count, next_entry, note_of, seat_of};
+use crate::entry::{count, next_entry, note_of};
 use numbers::Version;
 use reused::{Parts, State};
 use run_log::write::write_record;
@@ -30,7 +30,7 @@ pub(crate) fn play_lines(lines: &[u8], rest: &mut [u8], first: State, end: usize
         behind = next;
         let p = entry.process;
         let kind = entry.kind;
-        let seat = seat_of(n, p);
+        let seat = p.seat(n);
         let i = seat.0;
         let x = st.x;
         let own = st.rows[i];

@@ -19,13 +19,13 @@ loop-bytes-init c =
 
 -- the row that is reached is one of the 16
 reach : (c : After-reached_row-reached) → c.reached_row-reached.result.0 < 16
-reach c = row_there c.loop-bytes.invariant c.read_fields-entry.result _ c.seat_of-seat.ensures _ c.fresh-own.ensures _ c.reached_row-reached.ensures
+reach c = row_there c.loop-bytes.invariant c.read_fields-entry.result _ c.seat-seat.ensures _ c.fresh-own.ensures _ c.reached_row-reached.ensures
 
 pub bounds-records-seat : goal.bounds-records-seat
-bounds-records-seat c = seat_there c.loop-bytes.invariant c.read_fields-entry.result _ c.seat_of-seat.ensures
+bounds-records-seat c = seat_there c.loop-bytes.invariant c.read_fields-entry.result _ c.seat-seat.ensures
 
 pub bounds-records-seat-in-loop-bytes : goal.bounds-records-seat-in-loop-bytes
-bounds-records-seat-in-loop-bytes c = seat_there c.loop-bytes.invariant c.read_fields-entry.result _ c.seat_of-seat.ensures
+bounds-records-seat-in-loop-bytes c = seat_there c.loop-bytes.invariant c.read_fields-entry.result _ c.seat-seat.ensures
 
 pub bounds-rows-reached : goal.bounds-rows-reached
 bounds-rows-reached c = reach (goal.at.bounds-rows-reached c).After-reached_row-reached
@@ -51,7 +51,7 @@ loop-bytes-preserved c =
     rw (← part) (omega (arith, c.loop-bytes-test.true, c.as_chunks.ensures.front_len)) in
     turn_next c.loop-bytes.invariant there
     _ (c.read_fields-entry.ensures ∙ chunk_fields _ _ _ _ (c.as_chunks.ensures.front ∙ rw part) there)
-    _ c.seat_of-seat.ensures
+    _ c.seat-seat.ensures
     _ c.fresh-own.ensures
     _ c.steps_ahead-ahead.ensures
     _ c.reached_row-reached.ensures
