@@ -1,5 +1,5 @@
 // The lines of a text, told to what takes them.
-ghost use Rattle.std.specs.Prelude.{◌≡◌, true, ◌+◌, ◌/◌, ◌<◌, length};
+ghost use Rattle.std.specs.Prelude.{◌≡◌, true, ◌/◌, ◌<◌, length};
 ghost use Rattle.schedule.specs.File.{reading, file_entries};
 ghost use Rattle.schedule.specs.Direct.{is_accepted, part_entries};
 ghost use Rattle.writer.specs.Made.{entry_line, entry_lines, start_line, listing};
