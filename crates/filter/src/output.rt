@@ -1,10 +1,11 @@
 // Lines, written one after another.
-ghost use Rattle.std.specs.Prelude.{◌%◌, ◌^◌, OnOk};
+ghost use Rattle.std.specs.Prelude.{OnOk};
 ghost use Rattle.std.specs.Io.KnownBytes.{Appends};
 ghost use Rattle.numbers.specs.Refusals.{refusal_number};
 ghost use Rattle.run_log.specs.Found.{head_found};
 ghost use Rattle.text.specs.Lines.{refused_line, refused_text_line, head_text, lines_from, text_of};
 
+use numbers::Refusal;
 use run_log::read::read_head;
 use schedule::FileRefusal;
 use std::io;
@@ -27,12 +28,12 @@ pub fn write_refusal<W: Write>(output: &mut W, refusal: FileRefusal) -> io::Resu
     output.write_all(&line[..n])
 }
 
-// The line of a refused text.
-pub fn write_text_refusal<W: Write>(output: &mut W, number: usize, line: usize) -> io::Result<()>
-    ensures { OnOk result (Appends (W.contents output.old) (W.contents output.new) (refused_text_line (number % 2 ^ 32) line)) }
+// The line of a refused text. (The type that holds the refusal and the line is the writer's, on which the player does not stand.)
+pub fn write_text_refusal<W: Write>(output: &mut W, refusal: Refusal, line: usize) -> io::Result<()>
+    ensures { OnOk result (Appends (W.contents output.old) (W.contents output.new) (refused_text_line (refusal_number refusal) line)) }
 {
     let mut out = [0u8; ROOM];
-    let n = write_refused_text_line(&mut out, (number % (1 << 32)) as u32, line as u64);
+    let n = write_refused_text_line(&mut out, u32::from(refusal.number()), line as u64);
     output.write_all(&out[..n])
 }
 

@@ -25,7 +25,7 @@ fn play(input: &mut impl Read, output: &mut impl Write) -> Result<(), Trouble> {
     let n = read_whole(input, &mut text)?;
     match play_text(&text[..n], &mut log) {
         Ok(_) => write_log(output, &log)?,
-        Err(e) => write_text_refusal(output, usize::from(e.refusal.number()), e.line)?,
+        Err(e) => write_text_refusal(output, e.refusal, e.line)?,
     }
     Ok(())
 }

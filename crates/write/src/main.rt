@@ -30,7 +30,7 @@ fn write(
     let n = read_whole(input, &mut text)?;
     match write_text(&text[..n], &mut file) {
         Ok(length) => output.write_all(&file[..length])?,
-        Err(e) => write_text_refusal(errors, usize::from(e.refusal.number()), e.line)?,
+        Err(e) => write_text_refusal(errors, e.refusal, e.line)?,
     }
     Ok(())
 }
