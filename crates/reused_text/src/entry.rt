@@ -29,7 +29,7 @@ pub(crate) fn next_entry(lines: &[u8]) -> (Entry, &[u8])
 fn bit_number(bit: bool) -> u64
     ensures { result ≡ bit_number bit }
 {
-    if bit { 1 } else { 0 }
+    u64::from(bit)
 }
 
 // The log's record of an entry whose process stood at `place` and that came to `outcome`.
@@ -37,14 +37,13 @@ pub(crate) fn note_of(process: u8, kind: Kind, place: Place, outcome: Outcome) -
     requires { (told_of outcome).value.process.0 < 256 }
     ensures { result ≡ record_from process kind place outcome }
 {
-    let told = Told::from(outcome);
-    let stored = told.value;
+    let Told { number, value } = Told::from(outcome);
     Note {
-        outcome: told.number,
+        outcome: number,
         process,
         steps: steps_by(place, kind, outcome),
-        mark: stored.process.0 as u8,
-        value: bit_number(stored.bit),
+        mark: value.process.0 as u8,
+        value: bit_number(value.bit),
     }
 }
 

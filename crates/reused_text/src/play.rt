@@ -20,37 +20,25 @@ pub(crate) fn play_lines(lines: &[u8], rest: &mut [u8], first: State, end: usize
     requires few { end ≤ 4294967295 }
     ensures { (result ≡ changes_from first (bit_entries_left lines.now)) × (rest.new ≡ records_from first (bit_entries_left lines.now) rest.old) }
 {
-    let n = first.n;
-    let m = first.m;
+    let State { n, m, .. } = first;
     let mut st = first;
     let mut changes = Version(0);
     let mut behind = lines;
     for j in 0..end {
         let (entry, next) = next_entry(behind);
         behind = next;
-        let p = entry.process;
-        let kind = entry.kind;
-        let seat = p.seat(n);
-        let i = seat.0;
+        let seat = entry.process.seat(n);
         let x = st.x;
-        let own = st.rows[i];
-        let search = own.search;
-        let k = search.0;
-        let other = st.rows[k];
-        let looked = other.named;
+        let own = st.rows[seat.0];
+        let looked = st.rows[own.search.0].named;
         let parts = Parts { x, own, looked };
-        let r = parts.play(n, m, p, kind);
-        let now = r.x;
-        let left = r.own;
-        let outcome = r.outcome;
-        st.x = now;
-        st.rows[i] = left;
-        let stood = own.place;
-        let byte = p.0 as u8;
-        let note = note_of(byte, kind, stood, outcome);
-        let at = 12 * j;
-        write_record(&mut rest[at..], note);
-        changes = count(changes, x, now);
+        let left = parts.play(n, m, entry.process, entry.kind);
+        st.x = left.x;
+        st.rows[seat.0] = left.own;
+        let byte = entry.process.0 as u8;
+        let note = note_of(byte, entry.kind, own.place, left.outcome);
+        write_record(&mut rest[12 * j..], note);
+        changes = count(changes, x, left.x);
     }
     changes
 }

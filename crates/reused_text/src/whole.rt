@@ -20,13 +20,16 @@ fn run_entries(text: &[u8], log: &mut [u8], told: Told)
     ensures { log.new ≡ laid (text_log text.now) log.old }
 {
     let Sizes { n, m } = told.sizes;
-    let entries = told.entries;
     let started = State::start(n, m);
-    let state = started.state;
     let few = n as u8;
-    let count = entries as u32;
+    let count = told.entries as u32;
     lay_head(log, count, Version(0), few);
-    let changes = play_lines(&text[told.from..], &mut log[12..], state, entries);
+    let changes = play_lines(
+        &text[told.from..],
+        &mut log[12..],
+        started.state,
+        told.entries,
+    );
     lay_head(log, count, changes, few);
 }
 

@@ -8,20 +8,20 @@ loop-j-init c =
     let h = c.requires in
     turn_start _ _ _ _ h.ready h.form h.count h.room h.few
 
-pub bounds-st-i : goal.bounds-st-i
-bounds-st-i c = seat_there c.loop-j.invariant c.next_entry.result.0 _ c.seat-seat.ensures
+pub bounds-st-seat : goal.bounds-st-seat
+bounds-st-seat c = seat_there c.loop-j.invariant c.next_entry.result.0 _ c.seat-seat.ensures
 
-pub offset_bounds-st-k : goal.offset_bounds-st-k
-offset_bounds-st-k c = row_place _ (search_there c.loop-j.invariant c.next_entry.result.0 _ c.seat-seat.ensures)
+pub offset_bounds-st-own : goal.offset_bounds-st-own
+offset_bounds-st-own c = row_place _ (search_there c.loop-j.invariant c.next_entry.result.0 _ c.seat-seat.ensures)
 
-pub bounds-st-k : goal.bounds-st-k
-bounds-st-k c = search_there c.loop-j.invariant c.next_entry.result.0 _ c.seat-seat.ensures
+pub bounds-st-own : goal.bounds-st-own
+bounds-st-own c = search_there c.loop-j.invariant c.next_entry.result.0 _ c.seat-seat.ensures
 
-pub bounds-st-i-in-loop-j : goal.bounds-st-i-in-loop-j
-bounds-st-i-in-loop-j c = seat_there c.loop-j.invariant c.next_entry.result.0 _ c.seat-seat.ensures
+pub bounds-st-seat-in-loop-j : goal.bounds-st-seat-in-loop-j
+bounds-st-seat-in-loop-j c = seat_there c.loop-j.invariant c.next_entry.result.0 _ c.seat-seat.ensures
 
 pub note_of-note-requires : goal.note_of-note-requires
-note_of-note-requires c = answer_small c.loop-j.invariant c.next_entry.result.0 _ c.seat-seat.ensures _ c.play-r.ensures
+note_of-note-requires c = answer_small c.loop-j.invariant c.next_entry.result.0 _ c.seat-seat.ensures _ c.play-left.ensures
 
 pub count-changes-requires : goal.count-changes-requires
 count-changes-requires c = count_low c.loop-j.invariant c.loop-j-test.true
@@ -31,7 +31,7 @@ loop-j-preserved c =
     turn_next c.loop-j.invariant c.loop-j-test.true
     _ _ c.next_entry.ensures.entry c.next_entry.ensures.form
     _ c.seat-seat.ensures
-    _ c.play-r.ensures
+    _ c.play-left.ensures
     _ c.note_of-note.ensures
     _ c.count-changes.ensures
     _ c.write_record.ensures
