@@ -13,7 +13,8 @@ use reused::{Entry, Kind, Outcome, Place, Told, Triple};
 use run_log::Note;
 use writer::find::split_once;
 
-// The entry that the next line asks for, and the lines behind it.
+// The entry that the next line asks for, and the lines behind it. (The writer has the same four lines: over any form of texts they would
+// have to promise a list of that form's entries, and be no shorter.)
 pub(crate) fn next_entry(lines: &[u8]) -> (Entry, &[u8])
     requires form { InForm line_fine lines.now }
     requires some { 0 < length (bit_entries_left lines.now) }
