@@ -1,7 +1,6 @@
 // Numbers in decimal.
-ghost use Rattle.std.specs.Prelude.{◌≡◌, true, cond, leb};
-ghost use Rattle.text.specs.Decimal.{said};
-ghost use Rattle.writer.specs.Form.{all_digits, front, is_numeral};
+ghost use Rattle.std.specs.Prelude.{◌≡◌, ◌+◌, ◌*◌, ◌^◌, ◌<◌, cond, SomeIff};
+ghost use Rattle.writer.specs.Form.{all_digits, front};
 ghost use Rattle.writer.specs.Parts.{numeral_of, size_of};
 
 use crate::NumeralError;
@@ -18,34 +17,42 @@ fn front_fine(b: &[u8]) -> bool
     }
 }
 
-// Digits, in decimal without leading zeros.
-fn is_numeral(b: &[u8]) -> bool
-    ensures { result ≡ is_numeral b.now }
+// One digit more, if that leaves a number below 2^64.
+fn with_digit(value: u64, digit: u64) -> Option<u64>
+    ensures { SomeIff result (value * 10 + digit < 2 ^ 64) (value * 10 + digit) }
 {
-    front_fine(b) && b.iter().all(|x| x.is_ascii_digit())
+    value.checked_mul(10)?.checked_add(digit)
 }
 
-// What digits say, if that is below 2^64.
-fn read_digits(b: &[u8]) -> Option<u64>
-    requires { all_digits b.now ≡ true }
-    ensures { result ≡ cond (leb (said b.now) 18446744073709551615) (Some (said b.now)) None }
+// What keeps bytes from being a small number whose first digits say 2^64 or more.
+fn larger(rest: &[u8]) -> NumeralError
+    ensures { result ≡ cond (all_digits rest.now) NumeralError.TooLarge NumeralError.NoNumeral }
 {
-    let mut value: u64 = 0;
-    for x in b {
-        value = value.checked_mul(10)?.checked_add(u64::from(*x - b'0'))?;
+    if rest.iter().all(|x| x.is_ascii_digit()) {
+        NumeralError::TooLarge
+    } else {
+        NumeralError::NoNumeral
     }
-    Some(value)
 }
 
-// What bytes say as a numeral.
-#[tactic(auto, unfolding(crate::specs::Parts::numeral_of))]
+// What bytes say as a numeral. (Digits are tested and read in one pass: with two, 20 digits take half as long again.)
 pub fn read_numeral(b: &[u8]) -> Result<u64, NumeralError>
     ensures { result ≡ numeral_of b.now }
 {
-    if !is_numeral(b) {
+    if !front_fine(b) {
         return Err(NumeralError::NoNumeral);
     }
-    read_digits(b).ok_or(NumeralError::TooLarge)
+    let mut value: u64 = 0;
+    for (i, x) in b.iter().enumerate() {
+        if !x.is_ascii_digit() {
+            return Err(NumeralError::NoNumeral);
+        }
+        let Some(next) = with_digit(value, u64::from(*x - b'0')) else {
+            return Err(larger(&b[i..]));
+        };
+        value = next;
+    }
+    Ok(value)
 }
 
 // What a numeral says for a size: one of 2^64 or more, which is out of every range, is given as 0, which is so too.
