@@ -2,7 +2,7 @@
 // state whatever; what is unsound is turned away before anything else is looked at.
 #![tactic(auto)]
 
-use numbers::{Refusal, Sequence};
+use numbers::Sequence;
 use step::{Outcome, Record, Row, Tag};
 
 pub mod entry;

@@ -14,7 +14,7 @@ mod step;
 pub mod tell;
 mod turn;
 
-use numbers::{Process, Refusal};
+use numbers::Process;
 
 // A number of the circle, from 0 and below M: a tag, or the start of an interval of tags. Never taken for a process.
 #[derive(Clone, Copy, PartialEq, Eq)]

@@ -8,7 +8,7 @@ use Rattle.text.specs.Lines.{head_line, lines_of, refused_text_line}
 use Rattle.reused.specs.Steps.{told_of}
 use Rattle.reused.specs.State.{start_of}
 use Rattle.reused.specs.Run.{EntryNote, steps_by, notes, change_count}
-use Rattle.reused_text.specs.Types.{Process, State, Entry, Kind, Place, Outcome, Note, Version, TextRefusal, Ran}
+use Rattle.reused_text.specs.Types.{State, Entry, Kind, Place, Outcome, Note, Version, TextRefusal, Ran}
 use Rattle.reused_text.specs.Form.{outside, text_n, text_m, text_entries, text_number}
 
 abbrev pub bit_number : Bool → ℕ

@@ -1,6 +1,6 @@
 // The lines that are printed. Each is written at the front of a lent part, and the answer is how many bytes it has; a part
 // shorter than ROOM stays as it was, and the answer is 0, a count like any other (`printed_count`).
-ghost use Rattle.std.specs.Prelude.{◌≡◌, ◌≤◌, length};
+ghost use Rattle.std.specs.Prelude.{◌≡◌, ◌≤◌};
 ghost use Rattle.run_log.specs.Found.{head_found, note_found};
 ghost use Rattle.text.specs.Decimal.{decimal_of};
 ghost use Rattle.text.specs.Lines.{head_line, line_of, refused_line, refused_text_line, head_text, line_text, printed, printed_count};
