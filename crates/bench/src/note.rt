@@ -43,7 +43,8 @@ pub fn note_of(process: u8, ahead: u8, outcome: Outcome, x: Tag, kept: Tag) -> N
     }
 }
 
-// The count of changes after an entry that found X as `before` and left it as `after`.
+// The count of changes after an entry that found X as `before` and left it as `after`. Crate `reused_text` has its own: a shared one would be
+// public, and must ask that the count is small.
 pub(crate) fn count(changes: Version, before: Tag, after: Tag) -> Version
     requires { changes.0 < 4294967295 }
     ensures { result.0 ≡ changes.0 + cond (not (same_tag before after)) 1 0 }
