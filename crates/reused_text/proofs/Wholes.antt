@@ -23,7 +23,7 @@ use Rattle.reused.specs.Frame.{Ready}
 use Rattle.reused.specs.Run.{notes, change_count}
 use Rattle.reused.proofs.Soundness.{sizes_fine, sizes_of_lem}
 use Rattle.reused.proofs.RunLaws.{ready_start, notes_length}
-use Rattle.reused_text.specs.Types.{State, Entry, Version, Note, TextRefusal, Ran, Scanned, Told}
+use Rattle.reused_text.specs.Types.{State, Entry, Version, Note, TextRefusal, Ran, Scanned, Sizes, Read}
 use Rattle.reused_text.specs.Form.{head_fine, line_fine, outside, text_n, text_m, text_entries, text_number}
 use Rattle.reused_text.specs.Parts.{bit_entries_left, told_as, scanned_as, within, scanned_of}
 use Rattle.reused_text.specs.Played.{in_log, text_notes, text_log, ran_not, ran_as, ran_of, log_after, changes_from, records_from}
@@ -171,7 +171,7 @@ module _ (text : List ℕ) where
       let line : e.line ≡ outside text = ap (λ (t : Scanned). t.line) (is ∙ scanned_refused text not) in
       (rw (ne_eqb (text_number text) 0 not, ← number, ← line), rw (ne_eqb (text_number text) 0 not))
 
-  pub accepted : (told : Told) → told_as told ≡ scanned_of text → (text_number text ≡ 0) × (told_as told ≡ within text)
+  pub accepted : (told : Read Sizes) → told_as told ≡ scanned_of text → (text_number text ≡ 0) × (told_as told ≡ within text)
   accepted told is =
       let z : text_number text ≡ 0 = sym (scanned_number text) ∙ ap (λ (t : Scanned). t.number) (sym is) in
       (z, is ∙ scanned_accepted text z)

@@ -8,7 +8,7 @@ use Rattle.writer.specs.Form as p1
 use Rattle.writer.specs.Form.{place_of, before, behind, field_n}
 use Rattle.writer.specs.Parts.{below_64, size_of, entries_left}
 use Rattle.reused.specs.Circle.{sizes_number}
-use Rattle.reused_text.specs.Types.{Entry, TextRefusal, Scanned, Sizes, Told}
+use Rattle.reused_text.specs.Types.{Entry, TextRefusal, Scanned, Sizes, Read}
 use Rattle.reused_text.specs.Form.{field_m, head_fine, line_fine, entry_in, outside, text_n, text_m, text_entries, text_number}
 
 abbrev pub bit_entry_in : List ℕ → Entry
@@ -41,18 +41,18 @@ bit_entries_left lines = map entry_in (entries_left lines)
 abbrev pub passed_over : ℕ → ℕ → Scanned
 passed_over number line = record { number = number; line = line; from = 0; entries = 0; n = 0; m = 0 }
 
-abbrev pub told_as : Told → Scanned
+abbrev pub told_as : Read Sizes → Scanned
 told_as told =
     record {
       number = 0;
       line = 0;
       from = told.from;
       entries = told.entries;
-      n = told.sizes.n;
-      m = told.sizes.m;
+      n = told.opening.n;
+      m = told.opening.m;
     }
 
-abbrev pub scanned_as : Result Told TextRefusal → Scanned
+abbrev pub scanned_as : Result (Read Sizes) TextRefusal → Scanned
 scanned_as (Ok told) = told_as told
 scanned_as (Err e) = passed_over (refusal_number e.refusal) e.line
 

@@ -21,5 +21,5 @@ pub use Rattle.reused.specs.declared.Stepped.{Stepped}
 pub use Rattle.reused.specs.declared.Triple.{Triple}
 pub use Rattle.writer.specs.declared.TextRefusal.{TextRefusal}
 pub use Rattle.reused_text.specs.declared.Sizes.{Sizes}
-pub use Rattle.reused_text.specs.declared.Told.{Told}
+pub use Rattle.writer.specs.declared.scan.Read.{Read}
 pub use Rattle.reused_text.specs.Told.{Ran, Scanned}

@@ -16,11 +16,3 @@ pub struct Sizes {
     pub n: usize,
     pub m: u64,
 }
-
-// What a text says that is not refused: N and M, where its further lines begin, and how many entries they ask for.
-#[derive(Clone, Copy)]
-pub struct Told {
-    pub sizes: Sizes,
-    pub from: usize,
-    pub entries: usize,
-}

@@ -3,8 +3,8 @@ ghost use Rattle.std.specs.Prelude.{◌≡◌};
 ghost use Rattle.reused_text.specs.Form.{head_fine, line_fine};
 ghost use Rattle.reused_text.specs.Parts.{sizes_in, bit_entry_in, judged, scanned_as, scanned_of};
 
+use crate::Sizes;
 use crate::form::{read_bit_line, read_sizes};
-use crate::{Sizes, Told};
 use numbers::Refusal;
 use reused::Entry;
 use reused::opening::check_sizes;
@@ -42,22 +42,18 @@ impl TextForm for BitTexts {
 }
 
 // "16, then 24", then 26: all lines are in the form.
-fn judge(read: Read<Sizes>) -> Result<Told, TextRefusal>
+fn judge(read: Read<Sizes>) -> Result<Read<Sizes>, TextRefusal>
     ensures { scanned_as result ≡ judged read.opening read.from read.entries }
 {
     check_sizes(read.opening.n, read.opening.m)?;
     if read.entries > MOST_ENTRIES {
         return Err(TextRefusal::from(Refusal::TooMany));
     }
-    Ok(Told {
-        sizes: read.opening,
-        from: read.from,
-        entries: read.entries,
-    })
+    Ok(read)
 }
 
 // A whole text.
-pub(crate) fn scan(text: &[u8]) -> Result<Told, TextRefusal>
+pub(crate) fn scan(text: &[u8]) -> Result<Read<Sizes>, TextRefusal>
     ensures { scanned_as result ≡ scanned_of text.now }
 {
     match read_text::<BitTexts>(text) {

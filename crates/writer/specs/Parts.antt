@@ -5,7 +5,7 @@ use Rattle.numbers.specs.Numbers.{range_number}
 use Rattle.numbers.specs.Refusals.{refusal_number}
 use Rattle.text.specs.Decimal.{said}
 use Rattle.text.specs.Lines.{space, newline}
-use Rattle.writer.specs.Types.{Process, Entry, Kind, Ask, Store, NumeralError, NoNumeral, TooLarge, Opening, Read, Told, TextRefusal, Scanned}
+use Rattle.writer.specs.Types.{Process, Entry, Kind, Ask, Store, NumeralError, NoNumeral, TooLarge, Opening, Read, Start, TextRefusal, Scanned}
 use Rattle.writer.specs.Form.{place_of, before, behind, parts, is_numeral, is_process, head_fine, field_n, field_s, field_v, line_fine, entry_in, line_one, first_outside_by, outside_by, outside, entries_in, text_n, text_s, text_v, text_entries}
 use Rattle.writer.specs.Writer.{text_number}
 
@@ -104,16 +104,16 @@ read_by headed opening fine text =
 abbrev pub passed_over : ℕ → ℕ → Scanned
 passed_over number line = record { number = number; line = line; from = 0; entries = 0; n = 0; s = 0; v = 0 }
 
-abbrev pub scanned_as : Result Told TextRefusal → Scanned
+abbrev pub scanned_as : Result (Read Start) TextRefusal → Scanned
 scanned_as (Ok told) =
     record {
       number = 0;
       line = 0;
       from = told.from;
       entries = told.entries;
-      n = told.start.n;
-      s = told.start.s;
-      v = told.start.v;
+      n = told.opening.n;
+      s = told.opening.s;
+      v = told.opening.v;
     }
 scanned_as (Err e) = passed_over (refusal_number e.refusal) e.line
 

@@ -10,6 +10,6 @@ pub use Rattle.writer.specs.declared.NumeralError.{NumeralError}
 pub use Rattle.writer.specs.declared.NumeralError.TheVariants.{NoNumeral, TooLarge}
 pub use Rattle.writer.specs.declared.Opening.{Opening}
 pub use Rattle.writer.specs.declared.scan.Read.{Read}
-pub use Rattle.writer.specs.declared.Told.{Told}
+pub use Rattle.schedule.specs.declared.Start.{Start}
 pub use Rattle.writer.specs.declared.TextRefusal.{TextRefusal}
 pub use Rattle.writer.specs.Told.{Scanned, Written}

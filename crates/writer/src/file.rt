@@ -60,6 +60,6 @@ pub fn write_text(text: &[u8], out: &mut [u8]) -> Result<usize, TextRefusal>
     if out.len() < length {
         return Err(TextRefusal::from(Refusal::OutputRoom));
     }
-    write_file(told.start, &text[told.from..], told.entries, out);
+    write_file(told.opening, &text[told.from..], told.entries, out);
     Ok(length)
 }

@@ -3,7 +3,6 @@
 #![tactic(auto)]
 
 use numbers::Refusal;
-use schedule::Start;
 
 mod block;
 pub mod decimal;
@@ -46,12 +45,4 @@ pub struct Opening {
     pub n: u64,
     pub s: u64,
     pub v: u64,
-}
-
-// What a text says that is not refused: its start, where its further lines begin, and how many entries they ask for.
-#[derive(Clone, Copy)]
-pub struct Told {
-    pub start: Start,
-    pub from: usize,
-    pub entries: usize,
 }

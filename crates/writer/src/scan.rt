@@ -5,7 +5,7 @@ ghost use Rattle.writer.specs.Parts.{opening_in, InForm, entries_left, lines_in,
 
 use crate::find::split_once;
 use crate::form::{read_line, read_start};
-use crate::{Opening, TextRefusal, Told};
+use crate::{Opening, TextRefusal};
 use numbers::{Refusal, Sequence, check_range};
 use schedule::Start;
 use step::Entry;
@@ -106,7 +106,7 @@ impl TextForm for Schedules {
 }
 
 // "16 (N), 17 (S)", then "26 for more than 5,334 entries": all lines are in the form.
-fn judge(read: Read<Opening>) -> Result<Told, TextRefusal>
+fn judge(read: Read<Opening>) -> Result<Read<Start>, TextRefusal>
     ensures { scanned_as result ≡ judged read.opening read.from read.entries }
 {
     let Opening { n, s, v } = read.opening;
@@ -114,15 +114,15 @@ fn judge(read: Read<Opening>) -> Result<Told, TextRefusal>
     if read.entries > 5334 {
         return Err(TextRefusal::from(Refusal::TooMany));
     }
-    Ok(Told {
-        start: Start { n: n as u8, s, v },
+    Ok(Read {
+        opening: Start { n: n as u8, s, v },
         from: read.from,
         entries: read.entries,
     })
 }
 
 // A whole text.
-pub(crate) fn scan(text: &[u8]) -> Result<Told, TextRefusal>
+pub(crate) fn scan(text: &[u8]) -> Result<Read<Start>, TextRefusal>
     ensures { scanned_as result ≡ scanned_of text.now }
 {
     match read_text::<Schedules>(text) {
