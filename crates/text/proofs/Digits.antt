@@ -4,11 +4,11 @@ use Prim.Native.Nat.{ℕ, zero, suc, ◌+◌, ◌-◌, ◌*◌, ◌^◌, ◌/◌
 use mathlib.Core.Path.{◌≡◌, refl}
 use mathlib.Core.Bool.{Bool, true, false, cond}
 use mathlib.Core.List.{List, [], ◌∷◌, ◌++◌}
-use native.Mathlib.Nat.{pow-suc}
+use native.Mathlib.Nat.{pow-suc, one-le-pow}
 use native.Mathlib.Decide.{dec_lt}
 use native.Mathlib.Omega.{arith}
 use borrow.Author.Tests.{lt-ltb, le-ltb}
-use lib.Dec.{ltb}
+use lib.Dec.{ltb, lit<}
 use lib.ListN.{length, get_or, length-append, get_or-append}
 use lib.Seq.{get_or-append_seam}
 use Rattle.text.specs.Decimal.{digits_of, decimal_of, said_from, said}
@@ -44,6 +44,15 @@ decimal_first_length n h = rw (decimal_first n h)
 
 pub decimal_more_length : (n : ℕ) → 10 ≤ n → n < 10 ^ 20 → length (decimal_of n) ≡ length (decimal_of (n / 10)) + 1
 decimal_more_length n h k = rw (decimal_more n h k) (length-append (decimal_of (n / 10)) _)
+
+-- a number from a power of ten on, and below the next, has one digit more than the power
+pub power_length : (k n : ℕ) → 10 ^ k ≤ n → n < 10 * 10 ^ k → n < 10 ^ 20 → length (decimal_of n) ≡ k + 1
+power_length zero n low high small = decimal_first_length n (omega (arith, high))
+power_length (suc k) n low high small =
+    let e : 10 ^ suc k ≡ 10 ^ k * 10 = pow-suc 10 k in
+    let one : 1 ≤ 10 ^ k = one-le-pow k 10 (lit< tt) in
+    rw (decimal_more_length n (omega (arith, low, e, one)) small, power_length k (n / 10) (omega (arith, low, e)) (omega (arith, high, e)) (omega (arith, small)))
+    (omega arith)
 
 digits_length : (most n : ℕ) → length (digits_of most n) ≤ most
 unfolding digits_of

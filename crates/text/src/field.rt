@@ -5,17 +5,14 @@ ghost use Rattle.text.specs.Lines.{field, stored_at, stored_end};
 
 use crate::put::{put_byte, put_number};
 
-// How many digits a number has. The library counts no digits (no `ilog10`), so the loop stays.
+// How many digits a number has.
 pub fn count_digits(n: u64) -> usize
     ensures { result ≡ length (decimal_of n) }
 {
-    let mut rest = n;
-    let mut count = 1;
-    while 10 <= rest {
-        rest /= 10;
-        count += 1;
+    match n.checked_ilog10() {
+        Some(power) => power as usize + 1,
+        None => 1,
     }
-    count
 }
 
 // Whether a number and one byte more fit. No number has more than 20 digits, so they are counted only where there is less room.

@@ -1,13 +1,10 @@
-use Rattle.std.proofs.Common.{arith}
-use Rattle.text.proofs.Digits.{decimal_length, decimal_first_length, decimal_more_length}
+use Rattle.std.proofs.Common.{sym, arith}
+use Rattle.text.proofs.Digits.{decimal_first_length, power_length}
 use Rattle.text.proofs.field.count_digits.Goals as goal
 
-pub overflow_add-count : goal.overflow_add-count
-overflow_add-count c = omega (arith, decimal_length c.args.n)
+pub returns-in-Some : goal.returns-in-Some
+returns-in-Some c =
+    sym (power_length c.in-Some.power c.args.n c.in-Some.ensures.power_le c.in-Some.ensures.next_power_gt (omega arith))
 
-pub loop-rest-preserved : goal.loop-rest-preserved
-loop-rest-preserved c =
-    (omega arith, omega (arith, decimal_more_length c.loop-rest.rest (omega arith) (omega arith)))
-
-pub returns : goal.returns
-returns c = omega (arith, decimal_first_length c.loop-rest.rest (omega arith))
+pub returns-in-None : goal.returns-in-None
+returns-in-None c = sym (decimal_first_length c.args.n (omega (arith, c.in-None.ensures.none)))
