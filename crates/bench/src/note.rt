@@ -8,7 +8,8 @@ use numbers::Version;
 use run_log::Note;
 use step::{Outcome, Tag, Told};
 
-// The mark beside the number of an outcome: of an answered load, whether X is still the kept tag. Both are taken after the entry.
+// The mark beside the number of an outcome: of an answered load, whether X is still the kept tag. Both are taken after the entry. It goes by
+// the number and not by the outcome, so that an outcome is told once (docs/SPEED.md).
 fn mark_by(number: u8, x: Tag, kept: Tag) -> u8
     ensures { result ≡ mark_by number x kept }
 {

@@ -5,7 +5,8 @@ ghost use Rattle.std.specs.Io.KnownBytes.{Consumes, IsAtEnd};
 use crate::Trouble;
 use std::io::Read;
 
-// Reads until the buffer is full, the input ends or a read fails, and answers how many bytes came.
+// Reads until the buffer is full, the input ends or a read fails, and answers how many bytes came. Each turn goes on by as much as came, so
+// nothing is counted that a `for` could run over.
 fn read_full<R: Read>(input: &mut R, buffer: &mut [u8]) -> usize
     ensures within { result ≤ length buffer.new }
     ensures bytes { Consumes (R.remaining input.old) (R.remaining input.new) (take result buffer.new) }

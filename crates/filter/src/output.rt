@@ -46,7 +46,8 @@ pub fn write_head<W: Write>(output: &mut W, log: &[u8]) -> io::Result<()>
     output.write_all(&line[..n])
 }
 
-// A line for each of the first entries of a log, as many at a time as there is room for.
+// A line for each of the first entries of a log, as many at a time as there is room for: each turn goes on by as many as there was room for,
+// so nothing is counted that a `for` could run over.
 pub fn write_lines<W: Write>(output: &mut W, log: &[u8], entries: u32) -> io::Result<()>
     ensures { OnOk result (Appends (W.contents output.old) (W.contents output.new) (lines_from log.now 0 entries)) }
 {

@@ -47,7 +47,8 @@ fn request_by(code: u8, value: u64) -> Request
     }
 }
 
-// What an entry of p leaves, asked as a file asks it. A step is told from a request by the byte, with no `Kind` in between.
+// What an entry of p leaves, asked as a file asks it. A step is told from a request by the byte, with no `Kind` in between, which would be a
+// jump more at every entry (docs/SPEED.md).
 fn parts_by(s: Sequence, p: Process, parts: Parts, code: u8, value: u64) -> Stepped
     ensures { result ≡ parts_after s p parts.x parts.own parts.row (kind_by code value) }
 {

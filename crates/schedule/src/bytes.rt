@@ -3,7 +3,7 @@ ghost use Rattle.std.specs.Prelude.{◌≡◌, ◌+◌, ◌≤◌, length};
 ghost use Rattle.numbers.specs.Numbers.{number_at};
 ghost use Rattle.schedule.specs.File.{zeros_of};
 
-// The number of the two, four or eight bytes from place `at` on.
+// The number of the two, four or eight bytes from place `at` on: three functions, since the widths give three types of number.
 pub(crate) fn two(b: &[u8], at: usize) -> u16
     requires { at + 2 ≤ length b.now }
     ensures { result ≡ number_at b.now at 2 }

@@ -44,7 +44,8 @@ pub struct Accepted {
     pub entries: usize,
 }
 
-// What refuses a file, with the block where it was found and the place of the first stray byte or 0.
+// What refuses a file, with the block where it was found and the place of the first stray byte or 0, as documents 01 and 02 have them: with
+// an Option for the place the promise would leave two answers, none and 0.
 #[derive(Clone, Copy)]
 pub struct FileRefusal {
     pub refusal: Refusal,

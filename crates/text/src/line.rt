@@ -79,7 +79,8 @@ pub fn write_line(out: &mut [u8], place: u32, note: Note) -> usize
     )
 }
 
-// The line of a refused file; 0 stands for no place.
+// The line of a refused file; 0 stands for no place. It is promised for any three numbers, so it takes numbers and no `Refusal`; so is that of
+// a refused text.
 #[tactic(auto, using(crate::proofs::Rows::refused_row, crate::proofs::Rows::refused_placed_row))]
 pub fn write_refused_line(out: &mut [u8], number: usize, block: usize, place: usize) -> usize
     ensures { (result ≡ printed_count (refused_line number block place) out.old)

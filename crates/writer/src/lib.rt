@@ -13,7 +13,8 @@ pub mod scan;
 
 pub use file::write_text;
 
-// What turned a text away, and the line that 25 names; line 0 with every other refusal.
+// What turned a text away, and the line that 25 names; line 0 with every other refusal, as document 02 has it (with an Option the promise
+// would leave two answers, none and 0).
 #[derive(Clone, Copy, PartialEq, Eq)]
 pub struct TextRefusal {
     pub refusal: Refusal,
