@@ -107,11 +107,8 @@ impl Parts {
     fn answer(self, outcome: Outcome) -> Stepped
         ensures { result ≡ answered self.x self.own outcome }
     {
-        Stepped {
-            x: self.x,
-            own: self.own.at(Place::Idle),
-            outcome,
-        }
+        let own = self.own.at(Place::Idle);
+        Parts { own, ..self }.as_was(outcome)
     }
 
     // Load: read X as old,
@@ -154,15 +151,13 @@ impl Parts {
         ensures { result ≡ store1 p self.x self.own bit }
     {
         if self.all_equal() {
-            Stepped {
-                x: Triple {
-                    tag: self.own.tag,
-                    process: p,
-                    bit,
-                },
-                own: self.own.at(Place::Store2),
-                outcome: Outcome::GoesOn,
-            }
+            let x = Triple {
+                tag: self.own.tag,
+                process: p,
+                bit,
+            };
+            let own = self.own.at(Place::Store2);
+            Parts { x, own, ..self }.as_was(Outcome::GoesOn)
         } else {
             self.answer(Outcome::NotDone)
         }
@@ -171,11 +166,11 @@ impl Parts {
     fn check1(self) -> Stepped
         ensures { result ≡ check1 self.x self.own }
     {
-        if self.all_equal() {
-            self.answer(Outcome::Yes)
+        self.answer(if self.all_equal() {
+            Outcome::Yes
         } else {
-            self.answer(Outcome::No)
-        }
+            Outcome::No
+        })
     }
 }
 
