@@ -10,7 +10,7 @@ use Rattle.numbers.specs.Refusals.{refusal_number}
 use Rattle.numbers.proofs.Refusals.{refused, same_refusal}
 use Rattle.writer.proofs.Answers.{same_fields}
 use lib.ListN.{length, take, drop, length-append, length-drop, length-map}
-use lib.Seq.{take_at, drop_at, drop-drop}
+use lib.Seq.{drop_at, drop-drop, length-take-le}
 use Rattle.run_log.specs.Log.{laid, head_of, records_of, log_length}
 use Rattle.run_log.specs.Found.{log_of}
 use Rattle.run_log.proofs.Laws.{head_length, log_length_lem, laid_fits, laid_short, tail_given, tail_back}
@@ -30,13 +30,12 @@ use Rattle.reused_text.specs.Played.{in_log, text_notes, text_log, ran_not, ran_
 use Rattle.reused_text.proofs.Texts.{number_parts, scanned_refused, scanned_accepted, scanned_number}
 
 -- Head, records and the rest of the log.
-module _ (st : State) (es : List Entry) (n c : ℕ) (long : c ≡ length es) (log : List ℕ) (room : log_length c ≤ length log)
-    (first : List ℕ) (lays : first ≡ laid (head_of c 0 n) log) where
-  head_there : first ≡ head_of c 0 n ++ drop 12 log
-  head_there = lays ∙ laid_fits (head_of c 0 n) log (omega (arith, room, head_length c 0 n)) ∙ rw (head_length c 0 n)
+module _ (st : State) (es : List Entry) (n c : ℕ) (long : c ≡ length es) (log : List ℕ) (room : log_length c ≤ length log) where
+  pub rest_there : 12 * c ≤ length log - 12
+  rest_there = omega (arith, room)
 
-  pub rest_there : 12 * c ≤ length first - 12
-  rest_there = rw (head_there, length-append, head_length c 0 n, length-drop) (omega (arith, room))
+  front : length (take 12 log) ≡ 12
+  front = length-take-le 12 log (omega (arith, room))
 
   abbrev ns : List Note
   ns = map in_log (notes st es)
@@ -47,12 +46,10 @@ module _ (st : State) (es : List Entry) (n c : ℕ) (long : c ≡ length es) (lo
   count_is : length ns ≡ length es
   count_is = rw (length-map, notes_length)
 
-  module _ (changes : Version) (counts : changes ≡ changes_from st es) (back : List ℕ) (writes : back ≡ records_from st es (take (length first - 12) (drop 12 first))) where
-    records_there : take 12 first ++ (back ++ drop (length first - 12) (drop 12 first)) ≡ head_of c 0 n ++ behind
+  module _ (changes : Version) (counts : changes ≡ changes_from st es) (back : List ℕ) (writes : back ≡ records_from st es (take (length log - 12) (drop 12 log))) where
+    records_there : take 12 log ++ (back ++ drop (length log - 12) (drop 12 log)) ≡ take 12 log ++ behind
     unfolding records_from
-    records_there =
-        tail_back first back 12
-        ∙ rw (writes, tail_given, head_there, take_at (head_of c 0 n) (drop 12 log) 12 (head_length c 0 n), drop_at (head_of c 0 n) (drop 12 log) 12 (head_length c 0 n), drop-drop)
+    records_there = tail_back log back 12 ∙ rw (writes, tail_given, drop-drop)
 
     changes_is : changes.0 ≡ change_count (notes st es)
     unfolding changes_from
@@ -68,13 +65,13 @@ module _ (st : State) (es : List Entry) (n c : ℕ) (long : c ≡ length es) (lo
         laid_fits (log_of changes.0 n ns) log fits
         ∙ rw (log_length_lem changes.0 n ns, split changes.0, append_assoc (head_of (length ns) changes.0 n) (records_of ns) (drop (log_length (length ns)) log), count_is, long)
 
-    pub log_is : (last : List ℕ) → last ≡ laid (head_of c changes.0 n) (take 12 first ++ (back ++ drop (length first - 12) (drop 12 first)))
+    pub log_is : (last : List ℕ) → last ≡ laid (head_of c changes.0 n) (take 12 log ++ (back ++ drop (length log - 12) (drop 12 log)))
         → last ≡ laid (log_of (change_count (notes st es)) n ns) log
     log_is last lays-last =
         lays-last
         ∙ rw records_there
-        (laid_fits (head_of c changes.0 n) (head_of c 0 n ++ behind) (rw (length-append, head_length c 0 n, head_length c changes.0 n) (omega arith))
-        ∙ rw (head_length c changes.0 n, drop_at (head_of c 0 n) behind 12 (head_length c 0 n)) (sym whole ∙ rw changes_is))
+        (laid_fits (head_of c changes.0 n) (take 12 log ++ behind) (rw (length-append, front, head_length c changes.0 n) (omega arith))
+        ∙ rw (head_length c changes.0 n, drop_at (take 12 log) behind 12 front) (sym whole ∙ rw changes_is))
 
 -- A text that nothing refuses.
 module _ (text : List ℕ) (z : text_number text ≡ 0) where
@@ -135,8 +132,7 @@ module _ (text : List ℕ) (z : text_number text ≡ 0) (told : Scanned) (w : to
   pub told_entries : told.entries ≡ length (text_entries text)
   told_entries = rw w
 
-  module _ (started : StartGiven) (begun : started ≡ start_of told.n told.m) (log : List ℕ) (room : log_length told.entries ≤ length log)
-      (first : List ℕ) (lays : first ≡ laid (head_of told.entries 0 told.n) log) where
+  module _ (started : StartGiven) (begun : started ≡ start_of told.n told.m) (log : List ℕ) (room : log_length told.entries ≤ length log) where
     entries_long : told.entries ≡ length (bit_entries_left (drop told.from text))
     entries_long = rw (w, entries_are text z)
 
@@ -144,21 +140,21 @@ module _ (text : List ℕ) (z : text_number text ≡ 0) (told : Scanned) (w : to
     start_is = rw w at begun
 
     pub lines_given : (Ready started.state) × InForm line_fine (drop told.from text) × (told.entries ≡ length (bit_entries_left (drop told.from text)))
-        × (12 * told.entries ≤ length (take (length first - 12) (drop 12 first))) × (told.entries ≤ 4294967295)
+        × (12 * told.entries ≤ length (take (length log - 12) (drop 12 log))) × (told.entries ≤ 4294967295)
     lines_given = (
       start_ready text z started start_is,
       rw w (lines_fine text z),
       entries_long,
-      rw (tail_given, length-drop) (rest_there started.state (bit_entries_left (drop told.from text)) told.n told.entries entries_long log room first lays),
+      rw (tail_given, length-drop) (rest_there started.state (bit_entries_left (drop told.from text)) told.n told.entries entries_long log room),
       told_small.1,
     )
 
     pub log_done : (changes : Version) → changes ≡ changes_from started.state (bit_entries_left (drop told.from text))
-        → (back : List ℕ) → back ≡ records_from started.state (bit_entries_left (drop told.from text)) (take (length first - 12) (drop 12 first))
-        → (last : List ℕ) → last ≡ laid (head_of told.entries changes.0 told.n) (take 12 first ++ (back ++ drop (length first - 12) (drop 12 first)))
+        → (back : List ℕ) → back ≡ records_from started.state (bit_entries_left (drop told.from text)) (take (length log - 12) (drop 12 log))
+        → (last : List ℕ) → last ≡ laid (head_of told.entries changes.0 told.n) (take 12 log ++ (back ++ drop (length log - 12) (drop 12 log)))
         → last ≡ laid (text_log text) log
     log_done changes counts back writes last lays-last =
-        log_is started.state (bit_entries_left (drop told.from text)) told.n told.entries entries_long log room first lays changes counts back writes last lays-last
+        log_is started.state (bit_entries_left (drop told.from text)) told.n told.entries entries_long log room changes counts back writes last lays-last
         ∙ rw (start_is, w, entries_are text z) (ap (λ (f : List ℕ → List ℕ). f log) (text_log_lem text z))
 
 -- What a scan says decides.
