@@ -1,5 +1,5 @@
 // The lines of a text, without their newlines.
-ghost use Rattle.std.specs.Prelude.{◌≡◌};
+ghost use Rattle.std.specs.Prelude.{◌≡◌, cond};
 ghost use Rattle.reused_text.specs.Form.{stores_bit, asks_bit, request_in, kind_in};
 ghost use Rattle.reused_text.specs.Parts.{bit_line_of, fields_of, sizes_of};
 
@@ -9,41 +9,25 @@ use writer::decimal::read_size;
 use writer::find::split_once;
 use writer::form::{read_line, split_letter};
 
-fn stores_bit(request: step::Request) -> bool
-    ensures { result ≡ stores_bit request }
+// A request of numbers as one of bits, where it stores no other number than 0 or 1.
+fn request_in(request: step::Request) -> Option<Request>
+    ensures { result ≡ cond (stores_bit request) (Some (request_in request)) None }
 {
     match request {
-        step::Request::Load => true,
-        step::Request::Store(value) => value <= 1,
-        step::Request::Check => true,
+        step::Request::Load => Some(Request::Load),
+        step::Request::Store(0) => Some(Request::Store(false)),
+        step::Request::Store(1) => Some(Request::Store(true)),
+        step::Request::Store(_) => None,
+        step::Request::Check => Some(Request::Check),
     }
 }
 
-fn asks_bit(kind: step::Kind) -> bool
-    ensures { result ≡ asks_bit kind }
+fn kind_in(kind: step::Kind) -> Option<Kind>
+    ensures { result ≡ cond (asks_bit kind) (Some (kind_in kind)) None }
 {
     match kind {
-        step::Kind::Ask(request) => stores_bit(request),
-        step::Kind::Step => true,
-    }
-}
-
-fn request_in(request: step::Request) -> Request
-    ensures { result ≡ request_in request }
-{
-    match request {
-        step::Request::Load => Request::Load,
-        step::Request::Store(value) => Request::Store(value == 1),
-        step::Request::Check => Request::Check,
-    }
-}
-
-fn kind_in(kind: step::Kind) -> Kind
-    ensures { result ≡ kind_in kind }
-{
-    match kind {
-        step::Kind::Ask(request) => Kind::Ask(request_in(request)),
-        step::Kind::Step => Kind::Step,
+        step::Kind::Ask(request) => Some(Kind::Ask(request_in(request)?)),
+        step::Kind::Step => Some(Kind::Step),
     }
 }
 
@@ -53,12 +37,9 @@ pub(crate) fn read_bit_line(line: &[u8]) -> Option<Entry>
     ensures { result ≡ bit_line_of line.now }
 {
     let asked = read_line(line)?;
-    if !asks_bit(asked.kind) {
-        return None;
-    }
     Some(Entry {
         process: asked.process,
-        kind: kind_in(asked.kind),
+        kind: kind_in(asked.kind)?,
     })
 }
 
