@@ -81,7 +81,7 @@ const ORDER: [(&str, First); 7] = [
         },
     ),
     ("stray byte 509: ", First { high: 1, ..FINE }),
-    ("no stray byte: ", First { ..FINE }),
+    ("no stray byte: ", FINE),
 ];
 
 fn lay_first(block: &mut [u8; 512], first: First) {
