@@ -3,11 +3,11 @@ ghost use Rattle.std.specs.Prelude.{◌≡◌, not};
 ghost use Rattle.reused.specs.Steps.{same_triple, request_of};
 ghost use Rattle.reused.specs.Called.{with_x, parts_after};
 ghost use Rattle.reused.specs.Parts.{played_parts};
-ghost use Rattle.reused.specs.Run.{steps_by};
+ghost use Rattle.reused.specs.Run.{turned_away, steps_by};
 
 use crate::circle::Circle;
 use crate::turn::Turn;
-use crate::{Kind, Outcome, Parts, Place, Request, Requested, Stepped, Told, Triple};
+use crate::{Kind, Outcome, Parts, Place, Request, Requested, Stepped, Triple};
 use numbers::Process;
 
 impl Parts {
@@ -50,12 +50,24 @@ impl Turn {
     }
 }
 
+impl Outcome {
+    // Whether it turns the entry away.
+    fn is_turned_away(self) -> bool
+        ensures { result ≡ turned_away self }
+    {
+        matches!(
+            self,
+            Outcome::NoProcess | Outcome::CallOpen | Outcome::NoCall | Outcome::Unsound
+        )
+    }
+}
+
 // How many own steps are said of an entry, by the place before it and its outcome.
 pub fn steps_by(place: Place, kind: Kind, outcome: Outcome) -> u8
     ensures { result ≡ steps_by place kind outcome }
 {
     match kind {
-        Kind::Step if Told::from(outcome).number < 11 => place.own_steps(),
+        Kind::Step if !outcome.is_turned_away() => place.own_steps(),
         _ => 0,
     }
 }
