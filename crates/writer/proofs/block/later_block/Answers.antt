@@ -1,9 +1,9 @@
-use Rattle.std.proofs.Common.{arith, ◌≡◌, ℕ, ◌+◌, ◌-◌, ◌*◌, ◌++◌, length, take, drop, replicate, refl, sym, ap, ◌∙◌, add-one, append_assoc}
+use Rattle.std.proofs.Common.{arith, ◌≡◌, ℕ, ◌+◌, ◌-◌, ◌*◌, ◌++◌, length, take, replicate, refl, sym, ap, ◌∙◌, add-one, append_assoc}
 use Rattle.std.proofs.Math.Seq.{length-take-le}
 use Rattle.writer.specs.Made.{entries_made, later_front, later_made, sealed}
 use Rattle.writer.specs.Parts.{entries_left}
 use Rattle.writer.proofs.MadeBlock.{entries_made_length}
-use Rattle.writer.proofs.Stores.{low_first_8, entry_put, made_next, part_filled, some_left}
+use Rattle.writer.proofs.Stores.{low_first_8, entry_put, made_next, part_filled}
 use Rattle.writer.proofs.block.later_block.Goals as goal
 
 pub loop-j-init : goal.loop-j-init
@@ -13,9 +13,6 @@ loop-j-init c = record {
   left = refl;
   same = rw (c.copy_from_slice.ensures.after, c.to_le_bytes.ensures ∙ low_first_8 c.args.k) refl;
 }
-
-pub next_entry-requires-clause-some : goal.next_entry-requires-clause-some
-next_entry-requires-clause-some c = some_left (entries_left c.args.lines.now) c.loop-j.j c.args.c c.loop-j.invariant.left c.requires.some c.loop-j-test.true
 
 pub loop-j-preserved : goal.loop-j-preserved
 loop-j-preserved c =
@@ -31,11 +28,6 @@ loop-j-preserved c =
       same = rw (inv.same, c.copy_from_slice-in-loop-j.ensures.after, c.entry_bytes.ensures, add-one j, more.0)
           (entry_put c.args.k c.args.c (entries_made (take j es)) c.next_entry.result.0 j made (omega (arith, c.requires.few, c.loop-j-test.true)));
     }
-
-pub returns-clause-left : goal.returns-clause-left
-returns-clause-left c =
-    let all : c.loop-j.j ≡ c.args.c = omega (arith, c.loop-j-test.false) in
-    c.loop-j.invariant.left ∙ ap (λ (k : ℕ). drop k (entries_left c.args.lines.now)) all
 
 pub returns-clause-block : goal.returns-clause-block
 unfolding later_made sealed

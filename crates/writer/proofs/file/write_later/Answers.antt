@@ -1,17 +1,9 @@
-use Rattle.std.proofs.Common.{arith, ◌≡◌, ℕ, ◌+◌, ◌-◌, ◌*◌, ◌≤◌, ◌<◌, min, List, ◌++◌, length, take, drop, refl, sym, ap, ◌∙◌, length-drop}
+use Rattle.std.proofs.Common.{arith, ◌≡◌, ℕ, ◌+◌, ◌-◌, ◌*◌, ◌≤◌, ◌<◌, min, List, ◌++◌, length, take, drop, sym, ap, ◌∙◌, length-drop}
 use Rattle.std.proofs.Math.Seq.{length-sets}
 use Rattle.writer.specs.Made.{later_made, packed}
 use Rattle.writer.specs.Parts.{entries_left}
 use Rattle.writer.proofs.Packing.{part_stored, share_taken, share_left, packed_step, share_length}
 use Rattle.writer.proofs.file.write_later.Goals as goal
-
-pub loop-k-init : goal.loop-k-init
-loop-k-init c =
-    let all : c.block_count-k-end.result - 0 ≡ c.block_count-k-end.result = omega arith in
-    record { form = c.requires.form; count = c.requires.count; long = refl; same = rw all }
-
-pub later_block-requires-clause-some : goal.later_block-requires-clause-some
-later_block-requires-clause-some c = omega (arith, c.min-share.ensures, c.loop-k.invariant.count)
 
 -- the bytes of the block at hand
 room : (blocks k size : ℕ) → 512 * blocks ≤ size → k < blocks → 512 * k + 512 ≤ size

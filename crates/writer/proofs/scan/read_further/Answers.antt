@@ -24,9 +24,6 @@ loop-line-preserved g c =
       same = rw (here.2, number) (c.loop-line.invariant.same ∙ over_next g.F.TextForm.fine (e + 2) e rest here.0 (rw (← here.1) form));
     }
 
-pub loop-line-smaller : goal.loop-line-smaller
-loop-line-smaller g c = let here = c.in-Some.ensures.2 in rw here.2 (omega (arith, behind_length newline c.loop-line.rest.now here.0))
-
 pub returns-then-is_empty : goal.returns-then-is_empty
 returns-then-is_empty g c =
     let e = c.loop-line.entries in
