@@ -26,7 +26,8 @@ pub struct Entry<V> {
     pub kind: Kind<V>,
 }
 
-// What a start gives: a state, and whether it was taken, or else what turned it away.
+// What a start gives: a state (of zeros where it is turned away, as document 01 promises), and whether it was taken, or else what turned it
+// away.
 #[derive(Clone, Copy)]
 pub struct Started<S> {
     pub state: S,

@@ -77,7 +77,8 @@ pub struct Stored {
     pub bit: bool,
 }
 
-// What an entry came to. Value is a load answered; the last four turn the entry away.
+// What an entry came to. Value is a load answered; the last four turn the entry away. It is not the other machine's type: no store is ever used
+// up here, so there is no 13.
 #[derive(Clone, Copy)]
 pub enum Outcome {
     Taken,

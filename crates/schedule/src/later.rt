@@ -108,7 +108,7 @@ pub fn entries_of(b: &[u8], k: usize) -> &[u8]
     }
 }
 
-// The answer where no entry stands.
+// The answer where no entry stands, as `entry_at` promises: a step of process 255.
 fn no_entry() -> Entry
     ensures { result ≡ no_entry }
 {

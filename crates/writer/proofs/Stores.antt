@@ -5,7 +5,7 @@ use mathlib.Core.Path.{◌≡◌, refl, sym, ap, ◌∙◌}
 use mathlib.Core.List.{List, [], ◌∷◌, ◌++◌, append-nil, append_assoc}
 use native.Mathlib.Nat.{div-one, div-div-eq-div-mul, pow-suc, pow-zero}
 use native.Mathlib.Omega.{arith}
-use lib.ListN.{length, take, drop, replicate, length-drop}
+use lib.ListN.{length, take, drop, replicate}
 use lib.Seq.{take_at, drop_at, take-append-add}
 use borrow.Rule.Slice.PartMut.{put_mid}
 use mir.Syntax.{w32, w64}
@@ -65,10 +65,6 @@ made_next (d ∷ es) zero e rest h =
 made_next (d ∷ es) (suc j) e rest h =
     let more = made_next es j e rest h in
     (rw more.0 (sym (append_assoc (entry_made d) (entries_made (take j es)) (entry_made e))), more.1)
-
--- an entry is left
-pub some_left : (es : List Entry) (j c : ℕ) {rest : List Entry} → rest ≡ drop j es → c ≤ length es → j < c → 0 < length rest
-some_left es j c e h l = rw (e, length-drop) (omega (arith, h, l))
 
 -- an entry stored behind a block's first four bytes and the entries before it
 pub entry_put : (k c : ℕ) (made : List ℕ) (e : Entry) (j : ℕ) → length made ≡ 12 * j → j < 42
