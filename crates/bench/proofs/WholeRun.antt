@@ -4,7 +4,7 @@ use mathlib.Core.Path.{◌≡◌, sym, ap, ◌∙◌}
 use mathlib.Core.Bool.{true}
 use mathlib.Core.List.{List, ◌++◌, map}
 use native.Mathlib.Omega.{arith}
-use lib.ListN.{length, take, drop, length-append}
+use lib.ListN.{length, take, drop, length-append, length-drop}
 use lib.Seq.{drop_at, drop-drop, length-take-le}
 use Rattle.numbers.specs.Numbers.{in_range}
 use Rattle.numbers.proofs.First.{range_zero}
@@ -17,7 +17,7 @@ use Rattle.schedule.specs.File.{file_entries, reading}
 use Rattle.schedule.specs.Direct.{is_accepted}
 use Rattle.schedule.proofs.AcceptedFile.{accepted_answer, accepted_bound, accepted_start}
 use Rattle.run_log.specs.Log.{laid, head_of, records_of, log_length}
-use Rattle.run_log.proofs.Laws.{head_length, laid_fits, tail_given, tail_back}
+use Rattle.run_log.proofs.Laws.{head_length, laid_fits, laid_behind, tail_given, tail_back}
 use Rattle.bench.specs.Play.{played_from, records_from}
 use Rattle.bench.specs.Bench.{in_log}
 use Rattle.bench.specs.Bench.{start_state, notes_of, last_state, written}
@@ -66,6 +66,16 @@ module _ (f : List ℕ) (n s v c : ℕ) (is : reading f ≡ Accepted n s v c) wh
         rw goes (omega (arith, most, long, entry_count, few_entries))
 
     module _ (log : List ℕ) (room : log_length c ≤ length log) where
+      -- the head that is laid first, before anything is counted: the log stays as long, and what is behind the head as it was
+      pub first_room : (first : List ℕ) → first ≡ laid (head_of c 0 n) log → log_length c ≤ length first
+      first_room first lays =
+          rw (lays, laid_fits (head_of c 0 n) log (rw head_length (omega (arith, room))), length-append, length-drop, head_length) (omega (arith, room))
+
+      -- and the log of the run stands over that head as over what the log held
+      pub over_first : (first : List ℕ) → first ≡ laid (head_of c 0 n) log → written (notes_of f n s v) n first ≡ written (notes_of f n s v) n log
+      over_first first lays =
+          rw (lays, laid_behind (head_of c 0 n) log (log_length (length (notes_of f n s v))) (rw head_length (omega (arith, room))) (rw head_length (omega arith)))
+
       pub rest_there : 12 * length (file_entries f) ≤ length log - 12
       rest_there = omega (arith, room, entry_count)
 

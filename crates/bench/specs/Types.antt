@@ -1,4 +1,4 @@
--- The types that the code declares, here and below, by their names.
+-- The types that the code declares, here and below, and those of what is told in the documents' numbers, by their names.
 pub use Rattle.numbers.specs.declared.Process.{Process}
 pub use Rattle.numbers.specs.declared.Sequence.{Sequence}
 pub use Rattle.numbers.specs.declared.Version.{Version}

@@ -23,7 +23,8 @@ fn turn_away(e: FileRefusal) -> Ran
     }
 }
 
-// An accepted file with room for its log. The records go behind the head, which is laid once the changes are counted.
+// An accepted file with room for its log. The head is laid first, with no change counted yet; the records go into the rest behind it; and
+// once the changes are known the head is laid with their count.
 fn run_entries(file: &[u8], log: &mut [u8], start: Start, entries: usize) -> State
     requires { (reading file.now ≡ accepted_from start entries) × (log_length entries ≤ length log.old) }
     ensures { (result ≡ last_state file.now start.n start.s start.v)
@@ -34,8 +35,10 @@ fn run_entries(file: &[u8], log: &mut [u8], start: Start, entries: usize) -> Sta
         state: started.state,
         changes: Version(0),
     };
+    let count = entries as u32;
+    lay_head(log, count, Version(0), start.n);
     let played = play_entries(file, &mut log[12..], from);
-    lay_head(log, entries as u32, played.changes, start.n);
+    lay_head(log, count, played.changes, start.n);
     played.state
 }
 

@@ -3,9 +3,8 @@
 #![tactic(auto)]
 
 use bench::whole::run;
-use filter::{write_head, write_lines, write_refusal};
+use filter::{write_entry, write_head, write_refusal};
 use schedule::check_of;
-use std::io;
 use std::io::Write;
 
 // What block 0 of a file with V 7 says: N, S and how many blocks come after it; the last three bytes stand at the places 3, 18 and 509, where
@@ -145,37 +144,38 @@ fn seal_all(blocks: &mut [[u8; 512]]) {
     }
 }
 
-// Plays a file and prints what came of it behind its name.
-fn try_file(output: &mut impl Write, name: &str, file: &[u8], log: &mut [u8]) -> io::Result<()> {
-    output.write_all(name.as_bytes())?;
-    match run(file, log).refused {
+// Plays a file and prints what came of it behind its name. Each write is tried, whatever came of those before; what does not go out is missed
+// in the file beside.
+fn try_file(output: &mut impl Write, name: &str, file: &[u8], log: &mut [u8]) {
+    let refused = run(file, log).refused;
+    let _ = output.write_all(name.as_bytes());
+    let _ = match refused {
         Ok(()) => write_head(output, log),
         Err(refusal) => write_refusal(output, refusal),
-    }
+    };
 }
 
 // A file of block 0 alone.
-fn try_first(output: &mut impl Write, name: &str, first: First) -> io::Result<()> {
+fn try_first(output: &mut impl Write, name: &str, first: First) {
     let mut file = [0u8; 512];
     let mut log = [0u8; 12];
     lay_first(&mut file, first);
     seal(&mut file, 0);
-    try_file(output, name, &file, &mut log)
+    try_file(output, name, &file, &mut log);
 }
 
 // What block 0 is refused with, in order.
-fn try_order(output: &mut impl Write) -> io::Result<()> {
+fn try_order(output: &mut impl Write) {
     for (name, first) in ORDER {
-        try_first(output, name, first)?;
+        try_first(output, name, first);
     }
-    Ok(())
 }
 
 // Files of blocks without entries, as many as there may be and one more.
-fn try_lengths(output: &mut impl Write) -> io::Result<()> {
+fn try_lengths(output: &mut impl Write) {
     let mut blocks = [[0u8; 512]; 129];
     let mut log = [0u8; 12];
-    try_file(output, "length 0: ", &[], &mut log)?;
+    try_file(output, "length 0: ", &[], &mut log);
     lay_first(&mut blocks[0], First { later: 127, ..FINE });
     seal_all(&mut blocks);
     try_file(
@@ -183,42 +183,43 @@ fn try_lengths(output: &mut impl Write) -> io::Result<()> {
         "length 65,536: ",
         blocks[0..128].as_flattened(),
         &mut log,
-    )?;
-    try_file(output, "length 66,048: ", blocks.as_flattened(), &mut log)
+    );
+    try_file(output, "length 66,048: ", blocks.as_flattened(), &mut log);
 }
 
-fn try_full_run(output: &mut impl Write) -> io::Result<()> {
+fn try_full_run(output: &mut impl Write) {
     let mut blocks = [[0u8; 512]; 2];
     let mut log = [0u8; 144];
     let mut short = [0u8; 143];
     lay_first(&mut blocks[0], First { later: 1, ..FINE });
     lay_full_run(&mut blocks[1]);
     seal_all(&mut blocks);
-    try_file(output, "the full run: ", blocks.as_flattened(), &mut log)?;
-    write_lines(output, &log, 11)?;
+    try_file(output, "the full run: ", blocks.as_flattened(), &mut log);
+    for place in 0..11 {
+        let _ = write_entry(output, &log, place);
+    }
     try_file(
         output,
         "log of 143 bytes: ",
         blocks.as_flattened(),
         &mut short,
-    )?;
+    );
     blocks[0][510] = 132;
-    try_file(output, "check 132: ", blocks.as_flattened(), &mut log)
+    try_file(output, "check 132: ", blocks.as_flattened(), &mut log);
 }
 
-fn try_all(output: &mut impl Write) -> io::Result<()> {
-    try_lengths(output)?;
-    try_first(output, "length 512, no entries, N 2: ", FINE)?;
-    try_first(output, "N 16: ", First { n: 16, ..FINE })?;
-    try_first(output, "N 0: ", First { n: 0, ..FINE })?;
-    try_first(output, "N 17: ", First { n: 17, ..FINE })?;
-    try_first(output, "S 1: ", First { s: 1, ..FINE })?;
-    try_first(output, "S 2: ", First { s: 2, ..FINE })?;
-    try_order(output)?;
-    try_full_run(output)
+fn try_all(output: &mut impl Write) {
+    try_lengths(output);
+    try_first(output, "length 512, no entries, N 2: ", FINE);
+    try_first(output, "N 16: ", First { n: 16, ..FINE });
+    try_first(output, "N 0: ", First { n: 0, ..FINE });
+    try_first(output, "N 17: ", First { n: 17, ..FINE });
+    try_first(output, "S 1: ", First { s: 1, ..FINE });
+    try_first(output, "S 2: ", First { s: 2, ..FINE });
+    try_order(output);
+    try_full_run(output);
 }
 
-// What does not go out is missed in the file beside.
 fn main(rt: HostRuntime) {
-    let _ = try_all(&mut rt.stdout());
+    try_all(&mut rt.stdout());
 }

@@ -1,12 +1,12 @@
 -- Lines of a log that go out in parts, and a log as a whole.
-use Rattle.std.proofs.Common.{◌≡◌, ℕ, suc, ◌+◌, ◌-◌, ◌<◌, ◌≤◌, List, ◌++◌, Option, Some, Result, Ok, Err, OnOk, length, take, drop, refl, ap, sym, ◌∙◌, subst, arith, le-leb}
+use Rattle.std.proofs.Common.{◌≡◌, ℕ, suc, ◌+◌, ◌-◌, ◌<◌, ◌≤◌, List, ◌++◌, Option, Some, Result, Ok, Err, OnOk, length, take, drop, refl, ap, sym, ◌∙◌, subst, arith, append-nil, le-leb}
 use Rattle.std.proofs.Math.Seq.{take_at}
 use Rattle.std.specs.Io.KnownBytes.{Appends}
 use Rattle.std.proofs.KnownBytes.{Appends-trans}
-use Rattle.run_log.specs.Found.{head_found}
+use Rattle.run_log.specs.Found.{head_found, note_found}
 use Rattle.run_log.specs.declared.Head.{Head}
 use Rattle.text.specs.declared.Filled.{Filled}
-use Rattle.text.specs.Lines.{head_text, lines_from, lines_fit, filled_text, filled_of, filled_in, text_of}
+use Rattle.text.specs.Lines.{head_text, line_text, lines_from, lines_fit, filled_text, filled_of, filled_in, text_of}
 use Rattle.text.proofs.Filling.{lines_append, fit_most}
 
 -- a part of 128 bytes or more takes one line at least
@@ -38,6 +38,15 @@ pub part_shown : (a b c : Option (List ℕ)) (log out left : List ℕ) (place en
     → Appends a c (lines_from log 0 filled.place)
 part_shown a b c log out left place end filled e f before part =
     rw e (subst (Appends a c) (lines_more log out place end) (Appends-trans a b c _ _ before (rw (e, f) at part)))
+
+-- the lines that went out before, and the next
+pub line_shown : (a b c : Option (List ℕ)) (log : List ℕ) (place : ℕ) → Appends a b (lines_from log 0 place)
+    → Appends b c (line_text place (note_found log place)) → Appends a c (lines_from log 0 (place + 1))
+unfolding lines_from
+line_shown a b c log place before line =
+    let same : 0 + place ≡ place = omega arith in
+    let one = ap (λ p. lines_from log 0 place ++ lines_from log p 1) same ∙ ap (λ l. lines_from log 0 place ++ l) (append-nil _) in
+    subst (Appends a c) (sym (lines_append log 0 place 1 ∙ one)) (Appends-trans a b c _ _ before line)
 
 -- a log that has a head
 pub text_shown : {T E : Type 0} (r : Result T E) (a b c : Option (List ℕ)) (log : List ℕ) (head : Head) → head_found log ≡ Some head

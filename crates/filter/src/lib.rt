@@ -8,6 +8,9 @@ mod room;
 mod trouble;
 
 pub use input::{read_front, read_whole};
-pub use output::{write_head, write_lines, write_log, write_refusal, write_text_refusal};
+pub use output::{
+    write_entry, write_head, write_lines, write_log, write_log_in_pages, write_pages,
+    write_refusal, write_text_refusal,
+};
 pub use room::zeros;
 pub use trouble::{Program, Trouble, complain};

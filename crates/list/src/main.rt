@@ -33,6 +33,6 @@ fn list(input: &mut impl Read, output: &mut impl Write) -> Result<(), Trouble> {
 
 fn main(rt: HostRuntime) {
     if let Err(trouble) = list(&mut rt.stdin(), &mut rt.stdout()) {
-        complain(&rt, LIST, trouble);
+        let _ = complain(&mut rt.stderr(), LIST, trouble);
     }
 }

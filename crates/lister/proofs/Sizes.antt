@@ -1,6 +1,6 @@
 -- The lines of entries: how long they are, and how they grow entry by entry and block by block.
 -- Assumes nothing.
-use Prim.Native.Nat.{ℕ, zero, suc, ◌+◌, ◌-◌, ◌*◌, ◌/◌, ◌≤◌}
+use Prim.Native.Nat.{ℕ, zero, suc, ◌+◌, ◌-◌, ◌*◌, ◌/◌, ◌≤◌, ◌<◌}
 use mathlib.Core.Path.{◌≡◌, refl, ap, ◌∙◌}
 use mathlib.Core.Bool.{true}
 use mathlib.Core.List.{List, [], ◌∷◌, ◌++◌, append_assoc, append-nil}
@@ -12,12 +12,26 @@ use Rattle.step.specs.Types.{Entry}
 use Rattle.step.specs.Types.{Kind}
 use Rattle.requests.specs.declared.Kind.TheVariants.{Ask, Step}
 use Rattle.requests.specs.declared.Request.TheVariants.{Load, Store, Check}
+use Rattle.text.specs.Decimal.{decimal_of}
 use Rattle.text.proofs.Digits.{decimal_length}
 use Rattle.schedule.specs.File.{reading, block_at, blocks_after, entries_to}
 use Rattle.schedule.specs.Direct.{is_accepted, entry_at, used_part, part_entries}
-use Rattle.schedule.proofs.AcceptedFile.{accepted_room}
-use Rattle.schedule.proofs.Entries.{part_more, part_entries_lem, entries_next}
+use Rattle.schedule.proofs.AcceptedFile.{accepted_count, accepted_room}
+use Rattle.schedule.proofs.Entries.{used_length, part_more, part_entries_lem, entries_next}
 use Rattle.writer.specs.Made.{kind_line, entry_line, entry_lines, start_line}
+
+-- a line with one number, with two, and line one
+pub plain_size : (p : ℕ) → length (decimal_of p) + 3 ≡ length (kind_line Step p)
+plain_size p = rw (length-append (decimal_of p) (10 ∷ [])) (omega arith)
+
+pub store_size : (p v : ℕ) → length (kind_line Step p) + length (decimal_of v) + 1 ≡ length (kind_line (Ask (Store v)) p)
+store_size p v =
+    rw (length-append (decimal_of p ++ (32 ∷ [])) (decimal_of v ++ (10 ∷ [])), length-append (decimal_of p) (32 ∷ []), length-append (decimal_of v) (10 ∷ []), length-append (decimal_of p) (10 ∷ []))
+    (omega arith)
+
+pub start_size : (n s v : ℕ) → length (decimal_of n) + length (decimal_of s) + length (decimal_of v) + 5 ≡ length (start_line n s v)
+unfolding start_line
+start_size n s v = simp length-append (omega arith)
 
 -- no line is longer than 44 bytes, and line one is not longer than 65
 kind_most : (kind : Kind) (p : ℕ) → length (kind_line kind p) ≤ 44
@@ -51,6 +65,16 @@ block_lines f ok k low high =
     let this : k ≡ k - 1 + 1 = omega arith in
     ap (λ (j : ℕ). entry_lines (entries_to f j)) this
     ∙ rw (entries_next f (k - 1), lines_append, ← this, part_entries_lem (block_at f k) (accepted_room f ok k low high))
+
+-- the part of a later block with its entries is no longer than 42 entries are
+module _ (f : List ℕ) (ok : is_accepted (reading f) ≡ true) (done : ℕ) (h : done < blocks_after f) where
+  abbrev pub block_part : List ℕ
+  block_part = used_part (block_at f (done + 1))
+
+  pub block_part_lem : length block_part ≤ 504
+  block_part_lem =
+      rw (used_length (block_at f (done + 1)) (accepted_room f ok (done + 1) (omega arith) (omega (arith, h))))
+      (omega (arith, accepted_count f ok (done + 1) (omega arith) (omega (arith, h))))
 
 -- what grows at each step has grown at every later one
 pub grows : (g : ℕ → ℕ) → ((k : ℕ) → g k ≤ g (k + 1)) → (j m : ℕ) → j ≤ m → g j ≤ g m

@@ -1,9 +1,10 @@
 // The start of a machine.
 ghost use Rattle.std.specs.Prelude.{◌≡◌};
+ghost use Rattle.numbers.specs.Refusals.{number_in};
 ghost use Rattle.machine.specs.State.{first_row, first_record, first_state, zero_state, start_of, started_as};
 
 use crate::{Started, State};
-use numbers::{Process, Sequence, check_range};
+use numbers::{Process, Refusal, Sequence, check_range};
 use step::{Place, Record, Row, Tag};
 
 fn first_row(v: u64, old_number: i64) -> Row
@@ -26,6 +27,16 @@ fn first_record(next: u64) -> Record
         },
         next: Sequence(next),
         place: Place::Idle,
+    }
+}
+
+// The number that a start's answer tells: 0, or that of what refuses it.
+pub fn start_number(start: Result<(), Refusal>) -> usize
+    ensures { result ≡ number_in start }
+{
+    match start {
+        Ok(()) => 0,
+        Err(refusal) => usize::from(refusal.number()),
     }
 }
 

@@ -2,8 +2,8 @@
 // and its number.
 #![tactic(auto)]
 
-ghost use Rattle.std.specs.Prelude.{◌≡◌};
-ghost use Rattle.numbers.specs.Numbers.{seat_of, in_range_n, in_range_s, in_range, range_number};
+ghost use Rattle.std.specs.Prelude.{◌≡◌, ◌&&◌, ◌||◌, ◌<◌};
+ghost use Rattle.numbers.specs.Numbers.{seat_of, in_range_n, in_range_s, in_range, number_unless, first_found, range_number};
 ghost use Rattle.numbers.specs.Refusals.{refusal_number, number_in};
 
 // A process number, a sequence number and a count of changes are three types, so that none is taken for another.
@@ -98,4 +98,38 @@ pub fn check_range(n: usize, s: Sequence) -> Result<(), Refusal>
         return Err(Refusal::LastNumber);
     }
     Ok(())
+}
+
+// The number for something that is not fine, or 0, which stands for nothing found: for a caller that has a number and no `Refusal`.
+pub fn number_unless(fine: bool, n: usize) -> usize
+    ensures { result ≡ number_unless fine n }
+{
+    if fine { 0 } else { n }
+}
+
+// The first of two numbers that was found.
+pub fn first_found(n: usize, rest: usize) -> usize
+    ensures { result ≡ first_found n rest }
+{
+    if n == 0 { rest } else { n }
+}
+
+// A byte at a width in which sums of bytes fit.
+pub fn wide(x: u8) -> u32
+    ensures { (result ≡ x) × (result < 256) }
+{
+    u32::from(x)
+}
+
+// Two flags joined, whatever each of them is of.
+pub fn both(a: bool, b: bool) -> bool
+    ensures { result ≡ (a && b) }
+{
+    a && b
+}
+
+pub fn either(a: bool, b: bool) -> bool
+    ensures { result ≡ (a || b) }
+{
+    a || b
 }

@@ -33,6 +33,6 @@ fn play(input: &mut impl Read, output: &mut impl Write) -> Result<(), Trouble> {
 
 fn main(rt: HostRuntime) {
     if let Err(trouble) = play(&mut rt.stdin(), &mut rt.stdout()) {
-        complain(&rt, PLAY, trouble);
+        let _ = complain(&mut rt.stderr(), PLAY, trouble);
     }
 }

@@ -7,6 +7,7 @@ use Rattle.machine.proofs.Starts.{same_started}
 use Rattle.machine.specs.contracts.State.call
 use Rattle.machine.specs.contracts.State.zero
 use Rattle.machine.specs.contracts.State.start
+use Rattle.machine.specs.contracts.opening.start_number
 use Rattle.machine.specs.contracts.parts.play_coded
 use Rattle.machine.specs.contracts.parts.steps_ahead
 use Rattle.machine.specs.contracts.sound.tag_is_sound
@@ -24,6 +25,9 @@ module _ {M : Type 1} where
 
   pub state_start_determined : Determined M start.ended (λ 𝓤. start.clauses {𝓤 = 𝓤}) (λ 𝓤. start.spec {𝓤 = 𝓤})
   state_start_determined = (λ 𝓤 𝓛 mem run. refl, λ κs a k l. (same_told k l started_as same_started k.met l.met, refl))
+
+  pub start_number_determined : Determined M start_number.ended (λ 𝓤. start_number.clauses {𝓤 = 𝓤}) (λ 𝓤. start_number.spec {𝓤 = 𝓤})
+  start_number_determined = (λ 𝓤 𝓛 mem run. refl, λ κs a k l. (same_result k l k.met l.met, refl))
 
   pub play_coded_determined : Determined M play_coded.ended (λ 𝓤. play_coded.clauses {𝓤 = 𝓤}) (λ 𝓤. play_coded.spec {𝓤 = 𝓤})
   play_coded_determined = (λ 𝓤 𝓛 mem run. refl, λ κs a k l. (same_result k l k.met l.met, refl))

@@ -2,7 +2,9 @@
 // on byte slices (reused_text: the run, text: the lines); this program only moves bytes.
 #![tactic(auto)]
 
-use filter::{Program, Trouble, complain, read_whole, write_log, write_text_refusal, zeros};
+use filter::{
+    Program, Trouble, complain, read_whole, write_log_in_pages, write_text_refusal, zeros,
+};
 use reused_text::play_text;
 use std::io::{Read, Write};
 
@@ -24,7 +26,7 @@ fn play(input: &mut impl Read, output: &mut impl Write) -> Result<(), Trouble> {
     let mut log = zeros::<LOG_ROOM>();
     let n = read_whole(input, &mut text)?;
     match play_text(&text[..n], &mut log) {
-        Ok(_) => write_log(output, &log)?,
+        Ok(_) => write_log_in_pages(output, &log)?,
         Err(e) => write_text_refusal(output, e.refusal, e.line)?,
     }
     Ok(())
@@ -32,6 +34,6 @@ fn play(input: &mut impl Read, output: &mut impl Write) -> Result<(), Trouble> {
 
 fn main(rt: HostRuntime) {
     if let Err(trouble) = play(&mut rt.stdin(), &mut rt.stdout()) {
-        complain(&rt, REUSE, trouble);
+        let _ = complain(&mut rt.stderr(), REUSE, trouble);
     }
 }

@@ -6,10 +6,12 @@ use mathlib.Core.List.{List}
 use native.Mathlib.Nat.{mul-le-mul, mod-lt}
 use native.Mathlib.Omega.{arith}
 use lib.ListN.{length, get_or, take}
+use mir.Syntax.{w64}
+use mir.Val.{Fits}
 use Rattle.std.proofs.Common.{rules}
 use Rattle.std.proofs.lemmas.Grind.{common_steps}
 use Rattle.std.specs.List.{list_all}
-use Rattle.numbers.specs.Numbers.{all_below}
+use Rattle.numbers.specs.Numbers.{in_range_n, all_below}
 use Rattle.numbers.proofs.Below.{all_at, all_intro}
 use Rattle.reused.specs.Types.{Own, State}
 use Rattle.reused.specs.Circle.{interval_of, sizes_number, ahead}
@@ -50,6 +52,18 @@ pub interval_below : {n m : ℕ} → Sizes n m → interval_of n < m
 interval_below {n} {m} h = omega (arith, circle_least h, interval_least n h.some)
 
 -- It has more than one number.
+-- N in range is at most 16, and all that is reckoned of it fits.
+pub few_of : (n : ℕ) → in_range_n n ≡ true → n ≤ 16
+few_of n e = search rules
+
+pub interval_fits : (n : ℕ) → n ≤ 16 → Fits w64 (interval_of n)
+interval_fits n h = record { fits = omega (arith, interval_most n h) }
+
+pub circle_fits : (n : ℕ) → n ≤ 16 → Fits w64 ((2 * n + 2) * interval_of n)
+circle_fits n h =
+    let k : (2 * n + 2) * interval_of n ≤ 34 * 528 = mul-le-mul {n₁ = 2 * n + 2} {m₁ = interval_of n} {n₂ = 34} {m₂ = 528} (omega (arith, h)) (interval_most n h) in
+    record { fits = omega (arith, k) }
+
 pub circle_some : {n m : ℕ} → Sizes n m → 12 ≤ m
 circle_some {n} {m} h = omega (arith, circle_least h, interval_least n h.some)
 

@@ -13,7 +13,7 @@ use lib.ListN.{length, take, drop, length-append, length-drop, length-map}
 use lib.Seq.{drop_at, drop-drop, length-take-le}
 use Rattle.run_log.specs.Log.{laid, head_of, records_of, log_length}
 use Rattle.run_log.specs.Found.{log_of}
-use Rattle.run_log.proofs.Laws.{head_length, log_length_lem, laid_fits, laid_short, tail_given, tail_back}
+use Rattle.run_log.proofs.Laws.{head_length, log_length_lem, laid_fits, laid_short, laid_past, tail_given, tail_back}
 use Rattle.text.specs.Lines.{newline}
 use Rattle.writer.specs.Form.{place_of}
 use Rattle.writer.specs.Parts.{InForm, entries_left}
@@ -31,6 +31,11 @@ use Rattle.reused_text.proofs.Texts.{number_parts, scanned_refused, scanned_acce
 
 -- Head, records and the rest of the log.
 module _ (st : State) (es : List Entry) (n c : ℕ) (long : c ≡ length es) (log : List ℕ) (room : log_length c ≤ length log) where
+  -- the head that is laid first, before anything is counted: the log stays as long
+  pub first_room : (first : List ℕ) → first ≡ laid (head_of c 0 n) log → log_length c ≤ length first
+  first_room first lays =
+      rw (lays, laid_fits (head_of c 0 n) log (rw head_length (omega (arith, room))), length-append, length-drop, head_length) (omega (arith, room))
+
   pub rest_there : 12 * c ≤ length log - 12
   rest_there = omega (arith, room)
 
@@ -138,6 +143,16 @@ module _ (text : List ℕ) (z : text_number text ≡ 0) (told : Scanned) (w : to
 
     start_is : started ≡ start_of (text_n text) (text_m text)
     start_is = rw w at begun
+
+    pub told_room : (first : List ℕ) → first ≡ laid (head_of told.entries 0 told.n) log → log_length told.entries ≤ length first
+    told_room = first_room started.state (bit_entries_left (drop told.from text)) told.n told.entries entries_long log room
+
+    -- the log of the run stands over that first head as over what the log held
+    pub over_first : (first : List ℕ) → first ≡ laid (head_of told.entries 0 told.n) log → laid (text_log text) first ≡ laid (text_log text) log
+    over_first first lays =
+        rw lays
+        (laid_past (head_of told.entries 0 told.n) (text_log text) log (rw (head_length, text_log_length text) (omega arith))
+        (rw (text_log_length text, ← told_entries) room))
 
     pub lines_given : (Ready started.state) × InForm line_fine (drop told.from text) × (told.entries ≡ length (bit_entries_left (drop told.from text)))
         × (12 * told.entries ≤ length (take (length log - 12) (drop 12 log))) × (told.entries ≤ 4294967295)

@@ -8,26 +8,30 @@ ghost use Rattle.reused_text.specs.Played.{text_log, ran_as, ran_of, log_after};
 use crate::Sizes;
 use crate::play::play_lines;
 use crate::scan::scan;
-use numbers::Refusal;
+use numbers::{Refusal, Version};
 use reused::State;
 use run_log::write::lay_head;
 use writer::TextRefusal;
 use writer::scan::Read;
 
-// A text that nothing refuses, with room for its log. The records go behind the head, which is laid once the changes are counted.
+// A text that nothing refuses, with room for its log. The head is laid first, with no change counted yet; the records go into the rest behind
+// it; and once the changes are known the head is laid with their count.
 fn run_entries(text: &[u8], log: &mut [u8], told: Read<Sizes>)
     requires { (text_number text.now ≡ 0) × (told_as told ≡ within text.now) × (log_length told.entries ≤ length log.old) }
     ensures { log.new ≡ laid (text_log text.now) log.old }
 {
     let Sizes { n, m } = told.opening;
     let started = State::start(n, m);
+    let few = n as u8;
+    let count = told.entries as u32;
+    lay_head(log, count, Version(0), few);
     let changes = play_lines(
         &text[told.from..],
         &mut log[12..],
         started.state,
         told.entries,
     );
-    lay_head(log, told.entries as u32, changes, n as u8);
+    lay_head(log, count, changes, few);
 }
 
 // Plays a text into a lent log: how many entries were played, or what turned the text away.

@@ -102,6 +102,15 @@ laid_over first then part e h =
       e,
     )
 
+-- Bytes laid over fewer others: those others are gone.
+pub laid_past : (first then part : List ℕ) → length first ≤ length then → length then ≤ length part
+    → laid then (laid first part) ≡ laid then part
+laid_past first then part e h =
+    let fits : length first ≤ length part = omega arith in
+    let whole : length then ≤ length (laid first part) =
+    rw (laid_fits first part fits, length-append, length-drop) (omega arith) in
+    rw (laid_fits then (laid first part) whole, laid_behind first part (length then) fits e, laid_fits then part h)
+
 -- So goes the log: behind a head and the records of i entries the record of one more, in the rest of the log from there on.
 pub log_grown : (head : List ℕ) (notes : List Note) (note : Note) (part now left : List ℕ) (i : ℕ) → length head ≡ 12 → length notes ≡ i
     → log_length (i + 1) ≤ length part → now ≡ (head ++ records_of notes) ++ drop (log_length i) part

@@ -1,7 +1,7 @@
 -- Pieces of a text stored one behind the other, and a whole line in a lent part.
 -- Assumes nothing.
 use Prim.Native.Nat.{ℕ, suc, ◌+◌, ◌≤◌, ◌<◌}
-use mathlib.Core.Path.{◌≡◌, refl, ◌∙◌}
+use mathlib.Core.Path.{◌≡◌, refl, ap, ◌∙◌}
 use mathlib.Core.Bool.{Bool, true, false, cond}
 use mathlib.Core.List.{List, [], ◌∷◌, ◌++◌, append_assoc, append-nil}
 use native.Mathlib.Nat.{add-zero, zero-add, add_assoc}
@@ -10,7 +10,7 @@ use native.Mathlib.Omega.{arith}
 use borrow.Author.Tests.{le-leb, lt-leb}
 use lib.Dec.{leb}
 use lib.ListN.{length, get_or, take, drop, set, length-append}
-use lib.Seq.{sets, sets-eq, length-sets, take-suc, take_all}
+use lib.Seq.{sets, sets-eq, length-sets, take-suc, take_all, take-length}
 use Rattle.std.proofs.lemmas.Grind.{flat_map-append}
 use Rattle.text.specs.Types.{Piece, Word}
 use Rattle.text.specs.Pieces.{text_of_piece, text_of_pieces}
@@ -51,6 +51,20 @@ put_more {first} {then} {out} {at = at} p q =
 -- a piece leaves the part as long as it was
 pub put_length : {text out left : List ℕ} {at next : ℕ} → Put text out at left next → length left ≡ length out
 put_length {text} {out} {at = at} p = rw p.bytes (length-sets out at text)
+
+-- one byte more of a word
+pub put_next : (word out mid : List ℕ) (at i : ℕ) → i < length word → Put (take i word) out at mid (at + i)
+    → Put (take (i + 1) word) out at (set mid (at + i) (get_or word i 0)) (at + (i + 1))
+put_next word out mid at i h p =
+    let one : Put (get_or word i 0 ∷ []) mid (at + i) (set mid (at + i) (get_or word i 0)) (at + (i + 1)) =
+    record { place = omega arith; bytes = refl } in
+    rw (add-one i, take-suc word i 0 h) (rw (add-one i) at (put_more p one))
+
+-- and all of it
+pub put_whole : (word out left : List ℕ) (at i : ℕ) → i ≡ length word → Put (take i word) out at left (at + i) → Put word out at left (at + i)
+put_whole word out left at i e p =
+    let all : take i word ≡ word = ap (λ (k : ℕ). take k word) e ∙ take-length word in
+    rw all at p
 
 -- where a row has no piece
 abbrev pub no_piece : Piece

@@ -2,11 +2,11 @@
 -- Assumes nothing.
 use Prim.Native.Nat.{ℕ}
 use mathlib.Core.Path.{◌≡◌}
-use mathlib.Core.List.{◌++◌, append_assoc}
+use mathlib.Core.List.{[], ◌++◌, append_assoc, append-nil}
 use borrow.Author.Tests.{eq-eqb, ne_eqb}
 use Rattle.text.specs.Types.{Note}
 use Rattle.text.specs.Decimal.{decimal_of}
-use Rattle.text.specs.Lines.{bytes_in, head_line, line_of, refused_line, refused_text_line}
+use Rattle.text.specs.Lines.{bytes_in, space, newline, field, head_line, line_of, refused_line, refused_text_line}
 
 pub head_row : (entries changes n : ℕ)
     → head_line entries changes n
@@ -16,14 +16,11 @@ head_row entries changes n = simp append_assoc
 
 pub line_row : (place : ℕ) (note : Note)
     → line_of place note
-    ≡ decimal_of place
-    ++ (bytes_in " "
-    ++ (decimal_of note.process
-    ++ (bytes_in " "
-    ++ (decimal_of note.outcome
-    ++ (bytes_in " " ++ (decimal_of note.steps ++ (bytes_in " " ++ (decimal_of note.mark ++ (bytes_in " " ++ (decimal_of note.value ++ bytes_in "\n"))))))))))
+    ≡ field place space
+    ++ (field note.process space
+    ++ (field note.outcome space ++ (field note.steps space ++ (field note.mark space ++ (field note.value newline ++ [])))))
 unfolding line_of
-line_row place note = simp append_assoc
+line_row place note = simp append-nil
 
 pub refused_row : (number block place : ℕ) → place ≡ 0
     → refused_line number block place ≡ bytes_in "refused " ++ (decimal_of number ++ (bytes_in " block " ++ (decimal_of block ++ bytes_in "\n")))

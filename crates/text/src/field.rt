@@ -3,7 +3,7 @@ ghost use Rattle.std.specs.Prelude.{◌≡◌, ltb, length};
 ghost use Rattle.text.specs.Decimal.{decimal_of};
 ghost use Rattle.text.specs.Lines.{field, stored_at, stored_end};
 
-use crate::put::{put_byte, put_number};
+use crate::put::put_field;
 
 // How many digits a number has.
 pub fn count_digits(n: u64) -> usize
@@ -28,8 +28,7 @@ pub fn write_field(out: &mut [u8], at: usize, n: u64, end: u8) -> usize
     ensures { (result ≡ stored_end at (field n end) out.old) × (out.new ≡ stored_at at (field n end) out.old) }
 {
     if at < out.len() && has_room(out.len() - at, n) {
-        let next = put_number(out, at, n);
-        put_byte(out, next, end)
+        put_field(out, at, n, end)
     } else {
         at
     }

@@ -6,7 +6,7 @@ ghost use Rattle.text.specs.Decimal.{decimal_of};
 ghost use Rattle.text.specs.Lines.{head_line, line_of, refused_line, refused_text_line, head_text, line_text, printed, printed_count};
 ghost use Rattle.text.specs.Pieces.{text_of_pieces, most_of_pieces};
 
-use crate::Piece::{self, Number, Word};
+use crate::Piece::{self, Field, Number, Word};
 use crate::put::put_piece;
 use run_log::read::{read_head, read_record};
 use run_log::{Head, Note};
@@ -63,18 +63,12 @@ pub fn write_line(out: &mut [u8], place: u32, note: Note) -> usize
     write_pieces(
         out,
         &[
-            Number(place as u64),
-            Word(b" "),
-            Number(note.process as u64),
-            Word(b" "),
-            Number(note.outcome as u64),
-            Word(b" "),
-            Number(note.steps as u64),
-            Word(b" "),
-            Number(note.mark as u64),
-            Word(b" "),
-            Number(note.value),
-            Word(b"\n"),
+            Field(place as u64, b' '),
+            Field(note.process as u64, b' '),
+            Field(note.outcome as u64, b' '),
+            Field(note.steps as u64, b' '),
+            Field(note.mark as u64, b' '),
+            Field(note.value, b'\n'),
         ],
     )
 }

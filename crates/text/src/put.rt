@@ -3,11 +3,12 @@
 ghost use Rattle.std.specs.Prelude.{◌≡◌, [], ◌∷◌, ◌+◌, ◌≤◌, ◌<◌, length};
 ghost use Rattle.std.proofs.lemmas.List.Edits.{sets};
 ghost use Rattle.text.specs.Decimal.{decimal_of};
+ghost use Rattle.text.specs.Lines.{field};
 ghost use Rattle.text.specs.Pieces.{text_of_piece};
 
 use crate::Piece;
 
-pub(crate) fn put_byte(out: &mut [u8], at: usize, b: u8) -> usize
+fn put_byte(out: &mut [u8], at: usize, b: u8) -> usize
     requires { at < length out.old }
     ensures { (result ≡ at + length (b ∷ [])) × (out.new ≡ sets out.old at (b ∷ [])) }
 {
@@ -26,7 +27,7 @@ fn put_word(out: &mut [u8], at: usize, word: &[u8]) -> usize
 }
 
 // The digits before the last one are those of n / 10.
-pub(crate) fn put_number(out: &mut [u8], at: usize, n: u64) -> usize
+fn put_number(out: &mut [u8], at: usize, n: u64) -> usize
     requires { at + length (decimal_of n) ≤ length out.old }
     ensures { (result ≡ at + length (decimal_of n)) × (out.new ≡ sets out.old at (decimal_of n)) }
 {
@@ -39,6 +40,15 @@ pub(crate) fn put_number(out: &mut [u8], at: usize, n: u64) -> usize
     }
 }
 
+// A number and what ends it.
+pub(crate) fn put_field(out: &mut [u8], at: usize, n: u64, end: u8) -> usize
+    requires { at + length (field n end) ≤ length out.old }
+    ensures { (result ≡ at + length (field n end)) × (out.new ≡ sets out.old at (field n end)) }
+{
+    let next = put_number(out, at, n);
+    put_byte(out, next, end)
+}
+
 pub(crate) fn put_piece(out: &mut [u8], at: usize, piece: Piece) -> usize
     requires { at + length (text_of_piece piece) ≤ length out.old }
     ensures { (result ≡ at + length (text_of_piece piece)) × (out.new ≡ sets out.old at (text_of_piece piece)) }
@@ -46,5 +56,6 @@ pub(crate) fn put_piece(out: &mut [u8], at: usize, piece: Piece) -> usize
     match piece {
         Piece::Word(word) => put_word(out, at, word),
         Piece::Number(n) => put_number(out, at, n),
+        Piece::Field(n, end) => put_field(out, at, n, end),
     }
 }

@@ -37,6 +37,6 @@ fn write(
 
 fn main(rt: HostRuntime) {
     if let Err(trouble) = write(&mut rt.stdin(), &mut rt.stdout(), &mut rt.stderr()) {
-        complain(&rt, WRITE, trouble);
+        let _ = complain(&mut rt.stderr(), WRITE, trouble);
     }
 }

@@ -5,8 +5,8 @@ use mathlib.Core.Path.{◌≡◌, refl, sym, ap, ◌∙◌}
 use mathlib.Core.List.{List, [], ◌∷◌, ◌++◌, append-nil, append_assoc}
 use native.Mathlib.Nat.{div-one, div-div-eq-div-mul, pow-suc, pow-zero}
 use native.Mathlib.Omega.{arith}
-use lib.ListN.{length, take, drop, replicate}
-use lib.Seq.{take_at, drop_at, take-append-add}
+use lib.ListN.{length, take, drop, set, replicate}
+use lib.Seq.{sets, take_at, drop_at, take-append-add}
 use borrow.Rule.Slice.PartMut.{put_mid}
 use mir.Syntax.{w32, w64}
 use Rattle.std.specs.Int.{byte_at, bytes_low_first, to_le_bytes}
@@ -15,6 +15,13 @@ use Rattle.numbers.specs.Numbers.{bytes_of}
 use Rattle.writer.specs.Types.{Entry}
 use Rattle.writer.specs.Made.{entry_made, entries_made, later_front, filled}
 use Rattle.writer.proofs.MadeBlock.{entry_made_length}
+
+-- one zero more: what is left to store is less, and what comes of it is the same
+pub zeros_step : (b : List ℕ) (i end : ℕ) → i < end → sets b i (replicate (end - i) 0) ≡ sets (set b i 0) (i + 1) (replicate (end - (i + 1)) 0)
+zeros_step b i end h =
+    let e : end - i ≡ suc (end - (i + 1)) = omega (arith, h) in
+    let k : i + 1 ≡ suc i = omega arith in
+    rw (e, k)
 
 -- the library's bytes of a number are those of document 01
 byte_here : (i n : ℕ) → byte_at i n ≡ n / 256 ^ i % 256

@@ -45,28 +45,32 @@ fn seal(block: &mut [u8; 512])
 }
 
 // Block 0.
-pub(crate) fn first_block(start: Start, after: usize) -> [u8; 512]
-    ensures { result ≡ first_made start.n start.s start.v after }
+pub(crate) fn first_block(block: &mut [u8; 512], start: Start, after: usize)
+    ensures { block.new ≡ first_made start.n start.s start.v after }
 {
-    let mut block = [0; 512];
+    *block = [0; 512];
     block[2] = start.n;
     block[4..8].copy_from_slice(&start.s.to_le_bytes()[..4]);
     block[8..16].copy_from_slice(&start.v.to_le_bytes());
     block[16..18].copy_from_slice(&after.to_le_bytes()[..2]);
-    seal(&mut block);
-    block
+    seal(block);
 }
 
-// Block k, with the entries that the next c lines ask for; and the lines behind them.
-pub(crate) fn later_block(lines: &[u8], k: usize, c: usize) -> ([u8; 512], &[u8])
+// Block k, with the entries that the next c lines ask for; the answer is the lines behind them.
+pub(crate) fn later_block<'a>(
+    block: &mut [u8; 512],
+    lines: &'a [u8],
+    k: usize,
+    c: usize,
+) -> &'a [u8]
     requires form { InForm line_fine lines.now }
     requires some { c ≤ length (entries_left lines.now) }
     requires few { c ≤ 42 }
-    ensures block { result.0 ≡ later_made k (take c (entries_left lines.now)) }
-    ensures left { entries_left result.1.now ≡ drop c (entries_left lines.now) }
-    ensures form { InForm line_fine result.1.now }
+    ensures block { block.new ≡ later_made k (take c (entries_left lines.now)) }
+    ensures left { entries_left result.now ≡ drop c (entries_left lines.now) }
+    ensures form { InForm line_fine result.now }
 {
-    let mut block = [0; 512];
+    *block = [0; 512];
     block[..2].copy_from_slice(&k.to_le_bytes()[..2]);
     block[2] = c as u8;
     let mut rest = lines;
@@ -75,6 +79,6 @@ pub(crate) fn later_block(lines: &[u8], k: usize, c: usize) -> ([u8; 512], &[u8]
         block[4 + 12 * j..16 + 12 * j].copy_from_slice(&entry_bytes(entry));
         rest = behind;
     }
-    seal(&mut block);
-    (block, rest)
+    seal(block);
+    rest
 }

@@ -32,9 +32,9 @@ fn write_later(lines: &[u8], rest: &mut [u8], entries: usize)
     let mut behind = lines;
     for k in 0..block_count(entries) {
         let share = left.min(42);
-        let (block, next) = later_block(behind, k + 1, share);
-        rest[512 * k..512 * k + 512].copy_from_slice(&block);
-        behind = next;
+        let (_, part) = rest.split_at_mut(512 * k);
+        let block = part.first_chunk_mut::<512>().unwrap();
+        behind = later_block(block, behind, k + 1, share);
         left -= share;
     }
 }
@@ -47,8 +47,9 @@ fn write_file(start: Start, lines: &[u8], entries: usize, out: &mut [u8])
     requires room { 512 + 512 * blocks_for entries ≤ length out.old }
     ensures { out.new ≡ laid (file_made start.n start.s start.v (entries_left lines.now)) out.old }
 {
-    out[..512].copy_from_slice(&first_block(start, block_count(entries)));
-    write_later(lines, &mut out[512..], entries);
+    let (block, rest) = out.split_first_chunk_mut::<512>().unwrap();
+    first_block(block, start, block_count(entries));
+    write_later(lines, rest, entries);
 }
 
 // A text and a lent output: how long the file is that was written, or what turned the text away.

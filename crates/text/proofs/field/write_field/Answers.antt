@@ -3,7 +3,7 @@ use Rattle.std.proofs.Common.{arith, [], ◌∷◌, ◌+◌, ◌-◌, ◌≤◌,
 use Rattle.std.proofs.lemmas.Bool.{ltb-true}
 use Rattle.text.specs.Decimal.{decimal_of}
 use Rattle.text.specs.Lines.{field}
-use Rattle.text.proofs.Pieces.{piece, put_more, stored_fits}
+use Rattle.text.proofs.Pieces.{piece, stored_fits}
 use Rattle.text.proofs.field.write_field.Goals as goal
 
 pub returns-then-has_room : goal.returns-then-has_room
@@ -13,5 +13,4 @@ returns-then-has_room c =
     ltb-true (length (decimal_of a.n)) (length a.out.now - a.at) (sym c.has_room.ensures ∙ c.if-has_room.true) in
     let fits : a.at + length (field a.n a.end) ≤ length a.out.now =
     rw (length-append (decimal_of a.n) (a.end ∷ [])) (omega arith) in
-    stored_fits fits
-    (put_more (piece (decimal_of a.n) _ _ c.put_number-next.ensures) (piece (a.end ∷ []) _ _ c.put_byte.ensures))
+    stored_fits fits (piece (field a.n a.end) _ _ c.put_field.ensures)

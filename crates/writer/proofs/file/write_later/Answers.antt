@@ -1,5 +1,5 @@
-use Rattle.std.proofs.Common.{arith, ◌≡◌, ℕ, ◌+◌, ◌-◌, ◌*◌, ◌≤◌, ◌<◌, min, List, ◌++◌, length, take, drop, sym, ap, ◌∙◌, length-drop}
-use Rattle.std.proofs.Math.Seq.{length-sets}
+use Rattle.std.proofs.Common.{arith, ◌≡◌, ℕ, ◌+◌, ◌-◌, ◌*◌, ◌≤◌, ◌<◌, min, ◌++◌, length, take, drop, sym, ap, ◌∙◌, length-drop}
+use Rattle.std.proofs.Math.Seq.{sets, length-sets}
 use Rattle.writer.specs.Made.{later_made, packed}
 use Rattle.writer.specs.Parts.{entries_left}
 use Rattle.writer.proofs.Packing.{part_stored, share_taken, share_left, packed_step, share_length}
@@ -14,16 +14,18 @@ loop-k-preserved c =
     let old = c.loop-k in
     let inv = old.invariant in
     let es = entries_left old.behind.now in
-    let made = c.later_block.ensures in
+    let made = c.later_block-behind.ensures in
     let share : c.min-share.result ≡ min (length es) 42 = c.min-share.ensures ∙ rw inv.count in
     let taken : take c.min-share.result es ≡ take 42 es = rw share (share_taken es) in
     let left : drop c.min-share.result es ≡ drop 42 es = rw share (share_left es) in
     let fits : 512 * old.k + 512 ≤ length old.rest =
     room c.block_count-k-end.result old.k (length old.rest) (rw (c.block_count-k-end.ensures, inv.long) c.requires.room) c.loop-k-test.true in
     let bytes = later_made (old.k + 1) (take 42 es) in
-    let wrote : c.copy_from_slice.new.self ≡ bytes = c.copy_from_slice.ensures.after ∙ made.block ∙ ap (later_made (old.k + 1)) taken in
-    let stored = ap (λ (l : List ℕ). take (512 * old.k) old.rest ++ (l ++ drop (512 * old.k + 512 - 512 * old.k) (drop (512 * old.k) old.rest))) wrote
-    ∙ part_stored old.rest bytes (512 * old.k) (512 * old.k + 512) (omega arith) fits (share_length (old.k + 1) es ∙ omega arith) in
+    let wrote : c.later_block-behind.new.block ≡ bytes = made.block ∙ ap (later_made (old.k + 1)) taken in
+    let size : 512 * old.k + 512 - 512 * old.k ≡ 512 = omega arith in
+    let there = part_stored old.rest bytes (512 * old.k) (512 * old.k + 512) (omega arith) fits (share_length (old.k + 1) es ∙ sym size) in
+    let stored : c.split_at_mut-part.result.0.now ++ (c.later_block-behind.new.block ++ drop 512 c.split_at_mut-part.result.1.now) ≡ sets old.rest (512 * old.k) bytes =
+    rw (c.split_at_mut-part.ensures.front, c.split_at_mut-part.ensures.back, wrote) (rw size at there) in
     record {
       form = made.form;
       count = rw (made.left, length-drop, inv.count);
