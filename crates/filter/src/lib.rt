@@ -5,6 +5,8 @@
 mod input;
 mod output;
 mod room;
+#[cfg(test)]
+mod tests;
 mod trouble;
 
 pub use input::{read_front, read_whole};
@@ -13,4 +15,4 @@ pub use output::{
     write_refusal, write_text_refusal,
 };
 pub use room::zeros;
-pub use trouble::{Program, Trouble, complain};
+pub use trouble::{Program, Trouble, complain, write_trouble};

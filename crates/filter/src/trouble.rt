@@ -65,8 +65,8 @@ fn write_words<W: Write>(output: &mut W, words: &[&str]) -> io::Result<()>
     Ok(())
 }
 
-// Words of trouble, in a line. Where they do not go out either, nobody is left to be told.
-pub fn complain<W: Write>(errors: &mut W, program: Program, trouble: Trouble) -> io::Result<()>
+// Words of trouble, in a line.
+pub fn write_trouble<W: Write>(errors: &mut W, program: Program, trouble: Trouble) -> io::Result<()>
     ensures { OnOk result (Appends (W.contents errors.old) (W.contents errors.new) (words_of program trouble)) }
 {
     let Program {
@@ -103,4 +103,27 @@ pub fn complain<W: Write>(errors: &mut W, program: Program, trouble: Trouble) ->
             &[name, ": writing failed, so the ", output, " is not whole\n"],
         ),
     }
+}
+
+// The same words on standard error: a handle is asked once, for the whole line. Where they do not go out either, nobody is left to be told.
+pub fn complain(rt: &impl Eprint, program: Program, trouble: Trouble) {
+    let Program {
+        name,
+        input,
+        done,
+        output,
+    } = program;
+    let _ = match trouble {
+        Trouble::TooLong => {
+            eprintln!(rt;
+                "{name}: the {input} is longer than 1,048,576 bytes, so nothing was {done}"
+            )
+        }
+        Trouble::Reading => {
+            eprintln!(rt; "{name}: reading the {input} failed, so nothing was {done}")
+        }
+        Trouble::Writing => {
+            eprintln!(rt; "{name}: writing failed, so the {output} is not whole")
+        }
+    };
 }

@@ -2,7 +2,7 @@
 // functions on byte slices (lister: the text, text: the line of a refusal); this program only moves bytes.
 #![tactic(auto)]
 
-use filter::{Program, Trouble, complain, read_front, write_refusal, zeros};
+use filter::{Program, Trouble, read_front, write_refusal, write_trouble, zeros};
 use lister::list_file;
 use std::io::{Read, Write};
 
@@ -33,6 +33,6 @@ fn list(input: &mut impl Read, output: &mut impl Write) -> Result<(), Trouble> {
 
 fn main(rt: HostRuntime) {
     if let Err(trouble) = list(&mut rt.stdin(), &mut rt.stdout()) {
-        let _ = complain(&mut rt.stderr(), LIST, trouble);
+        let _ = write_trouble(&mut rt.stderr(), LIST, trouble);
     }
 }

@@ -3,7 +3,7 @@
 #![tactic(auto)]
 
 use bench::whole::run;
-use filter::{Program, Trouble, complain, read_front, write_log, write_refusal};
+use filter::{Program, Trouble, read_front, write_log, write_refusal, write_trouble};
 use std::io::{Read, Write};
 
 const PLAY: Program = Program {
@@ -33,6 +33,6 @@ fn play(input: &mut impl Read, output: &mut impl Write) -> Result<(), Trouble> {
 
 fn main(rt: HostRuntime) {
     if let Err(trouble) = play(&mut rt.stdin(), &mut rt.stdout()) {
-        let _ = complain(&mut rt.stderr(), PLAY, trouble);
+        let _ = write_trouble(&mut rt.stderr(), PLAY, trouble);
     }
 }

@@ -3,7 +3,7 @@
 #![tactic(auto)]
 
 use filter::{
-    Program, Trouble, complain, read_whole, write_log_in_pages, write_text_refusal, zeros,
+    Program, Trouble, read_whole, write_log_in_pages, write_text_refusal, write_trouble, zeros,
 };
 use reused_text::play_text;
 use std::io::{Read, Write};
@@ -34,6 +34,6 @@ fn play(input: &mut impl Read, output: &mut impl Write) -> Result<(), Trouble> {
 
 fn main(rt: HostRuntime) {
     if let Err(trouble) = play(&mut rt.stdin(), &mut rt.stdout()) {
-        let _ = complain(&mut rt.stderr(), REUSE, trouble);
+        let _ = write_trouble(&mut rt.stderr(), REUSE, trouble);
     }
 }

@@ -3,7 +3,7 @@
 // refusal goes to standard error.
 #![tactic(auto)]
 
-use filter::{Program, Trouble, complain, read_whole, write_text_refusal, zeros};
+use filter::{Program, Trouble, read_whole, write_text_refusal, write_trouble, zeros};
 use std::io::{Read, Write};
 use writer::write_text;
 
@@ -37,6 +37,6 @@ fn write(
 
 fn main(rt: HostRuntime) {
     if let Err(trouble) = write(&mut rt.stdin(), &mut rt.stdout(), &mut rt.stderr()) {
-        let _ = complain(&mut rt.stderr(), WRITE, trouble);
+        let _ = write_trouble(&mut rt.stderr(), WRITE, trouble);
     }
 }

@@ -2,7 +2,7 @@
 use Rattle.std.proofs.Common.{◌≡◌, length, ap, ◌∙◌}
 use Rattle.writer.specs.Made.{first_made, blocks_for}
 use Rattle.writer.specs.Parts.{entries_left}
-use Rattle.writer.proofs.Packing.{file_laid}
+use Rattle.writer.proofs.Packing.{parts_laid}
 use Rattle.writer.proofs.file.write_file.Goals as goal
 
 pub returns : goal.returns
@@ -13,5 +13,5 @@ returns c =
     let count = c.requires.count in
     let parts = rw c.unwrap.ensures at c.split_first_chunk_mut.ensures.cases in
     let blocks : c.block_count.result ≡ blocks_for (length es) = c.block_count.ensures ∙ ap blocks_for count in
-    file_laid start.n start.s start.v es a.out.now c.first_block.new.block c.write_later.new.rest (rw (← count) c.requires.room)
+    parts_laid start.n start.s start.v es a.out.now c.first_block.new.block c.write_later.new.rest (rw (← count) c.requires.room)
     (c.first_block.ensures ∙ ap (first_made start.n start.s start.v) blocks) (rw (← count, ← parts.1) c.write_later.ensures)
